@@ -40,6 +40,16 @@ module _ {B T : Type 0} (gives : B → ℕ → Option (List ℕ) → B → Type 
   io_from Says recipients count before after draws left grease is gave (Encrypt e) h = tt
   io_from Says recipients count before after draws left grease is gave (Decrypt e) h = tt
 
+  -- and of what was appended until then
+  pub front_from : (Appends : Prepared → Type 0) (recipients : List T) (count : ℕ) (before after : B) (draws left : List ℕ) (grease : StanzaValue)
+      → grease ≡ grease_stanza → GaveRandom gives before count after draws → (e : FileError)
+      → IfIo (λ _. (file : Prepared) × Prepares wraps recipients (Some grease) draws (Ok file) left × Appends file) e
+      → IfIo (λ _. (file : Prepared) × PreparesFrom gives wraps recipients count before after (Ok file) × Appends file) e
+  front_from Appends recipients count before after draws left grease is gave (Io e) (file, prepares, appends) =
+      (file, prepares_from recipients count before after draws left grease (Ok file) is gave prepares, appends)
+  front_from Appends recipients count before after draws left grease is gave (Encrypt e) h = tt
+  front_from Appends recipients count before after draws left grease is gave (Decrypt e) h = tt
+
   -- the same number, and the same recipients
   pub of_count : {S R W V : Type 0} (suite : SuiteMembers S) (read : ReadMembers R) (write : WriteMembers W) (recipients : List T) (n count : ℕ) (before after : B)
       (format : Format) (input last : R) (old new : W) (result : Result V CommandError) → n ≡ count

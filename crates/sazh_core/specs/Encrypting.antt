@@ -2,12 +2,14 @@
 use Rattle.std.specs.Prelude.{◌≡◌, ◌⊎◌, ℕ, ◌+◌, ◌*◌, List, [], length, codes, Option, Some, Result, Ok, Err, IsTrue, OnOk, IfErr}
 use Rattle.age.specs.Types.{FileError, Format}
 use Rattle.age.specs.Members.{SuiteMembers, ReadMembers, WriteMembers}
+use Rattle.age.specs.Copying.{AppendsFront}
 use Rattle.age.specs.Reading.{IsQuiet}
 use Rattle.age.specs.Stanza.{StanzaValue}
 use Rattle.age.specs.Recipients.{WrapAnswer}
 use Rattle.age.specs.EncryptErrors.{EncryptRefusal, OutOfMemory}
 use Rattle.age.specs.Encrypting.{Prepared, Prepares}
 use Rattle.age.specs.Claims.{AppendsFile}
+use Rattle.age.specs.File.{file_text}
 use Rattle.age.specs.WholeFiles.{RefusesFile}
 use Rattle.age.specs.Armor.{text_of}
 use Rattle.age.specs.FileErrors.{IfIo, IsEncryptError, EncryptsUnless}
@@ -56,8 +58,11 @@ module _ {B T : Type 0} (gives : B → ℕ → Option (List ℕ) → B → Type 
     pub refused : IfErr result (IfFile (λ e. IsEncryptError e → (last ≡ input) × (new ≡ old)))
     -- Its cause: memory, before the source was asked, or what the recipients and the random bytes come to.
     pub why : IfErr result (IfFile (EncryptsUnless (λ refusal. ((refusal ≡ OutOfMemory) × (after ≡ before)) ⊎ PreparesFrom (Err refusal))))
-    -- After an error of the reader or the writer the file was prepared; where the reader has no fault, the writer refuses, or memory or the
-    -- length does.
+    -- After an error of the reader or the writer a beginning of the file in this form was appended, of all that the input had.
+    pub front : IsTrue (read.tells input) → IsTrue (write.tells old) → IfErr result (IfFile (IfIo (λ _.
+        (file : Prepared) × PreparesFrom (Ok file) × AppendsFront write.appended
+        (text_of format (file_text suite.seal_of file.file_key file.stanzas file.nonce (read.rest input).bytes)) old new)))
+    -- After such an error the file was prepared; where the reader has no fault, the writer refuses, or memory or the length does.
     pub io : IfErr result (IfFile (IfIo (λ e. ((file : Prepared) × PreparesFrom (Ok file))
         × (IsTrue (read.tells input) → IsTrue (read.rest input).ends_well → IsQuiet (read.faults input) (read.faults last)
         → RefusesFile write.refuses old (length (read.rest input).bytes) e))))

@@ -26,7 +26,7 @@ impl Counting {
 }
 
 impl Write for Counting {
-    ghost use Rattle.std.specs.Prelude.{true};
+    ghost use Rattle.std.specs.Prelude.{true, OnErr};
     ghost use Rattle.std.proofs.Common.{arith};
     ghost use Rattle.sazh_core.specs.Counting.{CountedBytes, RefusesCount, counted_joined, counted_nothing, refuses_more_of_them};
 
@@ -37,6 +37,8 @@ impl Write for Counting {
     ghost refuses = { RefusesCount };
 
     ghost appended = { CountedBytes };
+
+    ghost write_besides = { λ old new _ result. OnErr result (new ≡ old) };
 
     ghost faults_fit = { λ _. Prim.omega arith };
 

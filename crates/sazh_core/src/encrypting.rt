@@ -63,7 +63,7 @@ fn encrypt_with<S: Suite, T: Recipient, B: RandomBytes, R: Read, W: Write>(
 /// - `Random(NoRandom)`: the source has fewer bytes. Nothing was read or written.
 /// - `Random(OutOfMemory)`: memory for the random bytes was refused. Nothing was read or written, and the source wasn't asked.
 /// - `File`: those of `encrypt_all`, and of these an error of encryption also where memory for the grease is refused. After such an error
-///   nothing was read or written, after any other a beginning of the file may have been written.
+///   nothing was read or written, after any other a beginning of the file of all that the input had was written.
 pub fn encrypt_to_keys<S: Suite, B: RandomBytes, R: Read, W: Write>(
     alloc: Global,
     recipients: &[x25519::Recipient<S>],
@@ -92,7 +92,7 @@ pub fn encrypt_to_keys<S: Suite, B: RandomBytes, R: Read, W: Write>(
 /// - `Random(NoRandom)`: the source has fewer bytes. Nothing was read or written.
 /// - `Random(OutOfMemory)`: memory for the random bytes was refused. Nothing was read or written, and the source wasn't asked.
 /// - `File`: those of `encrypt_all`, and of these an error of encryption also where memory for the grease is refused. After such an error
-///   nothing was read or written, after any other a beginning of the file may have been written.
+///   nothing was read or written, after any other a beginning of the file of all that the input had was written.
 pub fn encrypt_under<S: Suite, B: RandomBytes, R: Read, W: Write>(
     alloc: Global,
     passphrase: SecretString,

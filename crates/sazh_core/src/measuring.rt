@@ -42,7 +42,7 @@ impl Measuring {
 }
 
 impl Write for Measuring {
-    ghost use Rattle.std.specs.Prelude.{true};
+    ghost use Rattle.std.specs.Prelude.{true, OnErr};
     ghost use Rattle.std.proofs.Common.{arith};
     ghost use Rattle.sazh_core.specs.Measuring.{RefusesMeasured, TookBytes};
     ghost use Rattle.sazh_core.specs.MeasuringLemmas.{refuses_more_measured, took_joined, took_nothing};
@@ -54,6 +54,8 @@ impl Write for Measuring {
     ghost refuses = { RefusesMeasured };
 
     ghost appended = { TookBytes };
+
+    ghost write_besides = { λ old new _ result. OnErr result (new ≡ old) };
 
     ghost faults_fit = { λ _. Prim.omega arith };
 

@@ -23,7 +23,7 @@ use std::alloc::Global;
 /// - `File(Io(OutOfMemory))`: memory for reading armor was refused. Nothing was drawn or written.
 /// - `File(Decrypt)`: the file isn't opened, as `open_file` says. Nothing was drawn or written.
 /// - those of `encrypt_to_keys`, whose reader is the plaintext: after one of encryption or of the random bytes nothing was written, after any
-///   other a beginning of the new file may have been.
+///   other a beginning of the new file of all that this reader had.
 pub fn rekey<S: Suite, I: Identity, B: RandomBytes, R: Read + Drop, W: Write>(
     alloc: Global,
     identities: &mut [I],
