@@ -1,6 +1,7 @@
 //! What a failed encryption leaves behind.
 ghost use Rattle.std.specs.Prelude.{◌≡◌, ◌⊎◌, List, ℕ, Some, Ok, IsTrue, IfOk, OnOk};
 ghost use Rattle.age.specs.Armor.{text_of};
+ghost use Rattle.age.specs.Claims.{AppendsFile};
 ghost use Rattle.age.specs.Copying.{AppendsFront};
 ghost use Rattle.age.specs.Encrypting.{Prepared, Prepares};
 ghost use Rattle.age.specs.File.{file_text};
@@ -71,9 +72,11 @@ pub fn written_at_once<S: Suite, T: Recipient, W: Write>(
 }
 
 /// Encrypts what a reader still has to recipients, bare or in armor, and writes it chunk by chunk. Reader and writer tell their bytes.
+/// It refuses as `encrypt_all` does.
 ///
-/// Whatever it answers, the writer is as it was, or it was given a beginning of the text of one file of what the reader had, as the recipients
-/// and the random bytes make it, and nothing else. It refuses as `encrypt_all` does, by which a success gave it all of that text.
+/// - `left`: whatever it answers, the writer is as it was, or it was given a beginning of the text of one file of what the reader had, as the
+///   recipients and the random bytes make it, and nothing else.
+/// - `whole`: a success says that what the reader had ended well, and that the writer was given all of that text.
 pub fn left_behind<S: Suite, T: Recipient, R: Read, W: Write>(
     alloc: Global,
     recipients: &[T],
@@ -83,10 +86,13 @@ pub fn left_behind<S: Suite, T: Recipient, R: Read, W: Write>(
     reader: &mut R,
     writer: &mut W,
 ) -> Result<(), FileError>
-    ensures { IsTrue (R.tells reader.old) → IsTrue (W.tells writer.old) → (writer.new ≡ writer.old)
+    ensures left { IsTrue (R.tells reader.old) → IsTrue (W.tells writer.old) → (writer.new ≡ writer.old)
         ⊎ ((prepared : Prepared) × Prepares T.wraps recipients.now (Some grease) draw.old (Ok prepared) draw.new
         × AppendsFront W.appended
         (text_of format (file_text S.seal_of prepared.file_key prepared.stanzas prepared.nonce (R.rest reader.old).bytes)) writer.old writer.new) }
+    ensures whole { IsTrue (R.tells reader.old) → IsTrue (W.tells writer.old) → OnOk result
+        ((prepared : Prepared) × Prepares T.wraps recipients.now (Some grease) draw.old (Ok prepared) draw.new
+        × AppendsFile S.seal_of W.appended (text_of format) prepared (R.rest reader.old) writer.old writer.new) }
 {
     encrypt_all::<S, T, R, W>(alloc, recipients, draw, grease, format, reader, writer)
 }
