@@ -89,6 +89,7 @@ module _ {W : Type 0} (write : Ghosts W) where
     -- in binary it is that of the inner writer
     pub binary : is_armored old ≡ false →
         Writes write.tells write.faults write.refuses write.appended (inner_of old) (inner_of new) bytes result
+        × write.write_besides (inner_of old) (inner_of new) bytes result
     pub state : FailsInArmor old new result
 
   -- What a flush says besides: it is one of the inner writer, in armor tried again, and what is held stays so.
@@ -97,5 +98,6 @@ module _ {W : Type 0} (write : Ghosts W) where
         Flushes write.tells write.faults (Retried write.refuses) write.appended (inner_of old) (inner_of new) result
     pub binary : is_armored old ≡ false →
         Flushes write.tells write.faults write.refuses write.appended (inner_of old) (inner_of new) result
+        × write.flush_besides (inner_of old) (inner_of new) result
     pub held : held_len new ≡ held_len old
     pub state : FailsInArmor old new result

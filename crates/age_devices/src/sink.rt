@@ -1,5 +1,5 @@
 //! A device that is written.
-ghost use Rattle.std.specs.Prelude.{◌≡◌, ℕ, ◌+◌, ◌^◌, ◌≤◌, ◌<◌, ◌⊎◌, true, [], ◌++◌, length, min, Ok, Err, IfErr};
+ghost use Rattle.std.specs.Prelude.{◌≡◌, ℕ, ◌+◌, ◌^◌, ◌≤◌, ◌<◌, ◌⊎◌, true, [], ◌++◌, length, min, Ok, Err, IfErr, OnErr};
 ghost use Rattle.std.proofs.Common.{arith};
 ghost use Rattle.std.proofs.lemmas.Grind.{common_steps};
 ghost use Rattle.age_error.specs.Refusals.{IsDevice};
@@ -63,6 +63,8 @@ impl<'a> Write for Sink<'a> {
 
     ghost appended = { λ a x b. kept_in b ≡ kept_in a ++ x };
 
+    ghost write_besides = { λ old new _ result. OnErr result (kept_in new ≡ kept_in old) };
+
     ghost faults_fit = { λ w. Prim.omega (arith, w.calls.fits) };
 
     ghost refuses_more = { λ _ _ _ _ _ h. h };
@@ -80,6 +82,7 @@ impl<'a> Write for Sink<'a> {
         ensures answer { faults_of self.old < most_failures →
             (result ≡ by_step (call self.old 0) (λ most. Ok (min (length bytes.now) most))) ⊎ (result ≡ Err OutOfMemory) }
         ensures last { most_failures ≤ faults_of self.old → IfErr result (λ e. e ≡ OutOfMemory) }
+        ensures none { OnErr result (kept_in self.new ≡ kept_in self.old) }
     {
         let most = match self.calls.next() {
             Err(e) => return Err(e),

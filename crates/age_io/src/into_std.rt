@@ -144,7 +144,8 @@ impl<T: Write> io::Write for IntoStd<T> {
     fn write(&mut self, buf: &[u8]) -> io::Result<usize>
         ensures bound { WritesAtMost result buf.now }
         ensures bytes { WriteAppends None None result buf.now }
-        ensures writes { Tells (Writes T.tells T.faults T.refuses T.appended (wrapped_of self.old) (wrapped_of self.new) buf.now) result }
+        ensures writes { Tells (λ answer. Writes T.tells T.faults T.refuses T.appended (wrapped_of self.old) (wrapped_of self.new) buf.now answer
+            × T.write_besides (wrapped_of self.old) (wrapped_of self.new) buf.now answer) result }
     {
         match self.inner.write(buf) {
             Ok(count) => Ok(count),
@@ -155,7 +156,8 @@ impl<T: Write> io::Write for IntoStd<T> {
     /// One flush of what is inside. It writes no end: a `StreamWriter` is finished by its own call, after `into_inner`.
     fn flush(&mut self) -> io::Result<()>
         ensures bytes { Keeps None None }
-        ensures flushes { Tells (Flushes T.tells T.faults T.refuses T.appended (wrapped_of self.old) (wrapped_of self.new)) result }
+        ensures flushes { Tells (λ answer. Flushes T.tells T.faults T.refuses T.appended (wrapped_of self.old) (wrapped_of self.new) answer
+            × T.flush_besides (wrapped_of self.old) (wrapped_of self.new) answer) result }
     {
         match self.inner.flush() {
             Ok(()) => Ok(()),
