@@ -25,8 +25,8 @@ OrMemory refuses writer n e = (e ≡ OutOfMemory) ⊎ refuses writer n e
 abbrev pub HandsOn : {S : Type 0} → (S → ℕ → Error → Type 0) → S → Error → Type 0
 HandsOn refuses writer e = (n : ℕ) × Retried refuses writer n e
 
--- What a write does: at `Ok(n)` the first n bytes are appended, and a refusal appended some of the first, or none where it is an interruption,
--- which can be tried again.
+-- What a write does: at `Ok(n)` the first n bytes are appended. A refusal appended some first bytes, however many, or none; an interruption,
+-- which can be tried again, none.
 pub record Writes {S : Type 0} (tells : S → Bool) (faults : S → ℕ) (refuses : S → ℕ → Error → Type 0) (appended : S → List ℕ → S → Type 0)
     (old new : S) (bytes : List ℕ) (result : Result ℕ Error) : Type 0 where
   -- of every writer
