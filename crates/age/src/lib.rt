@@ -27,6 +27,7 @@ pub mod streaming {
     pub use age_protocol::migrate::migrate;
     pub use age_protocol::opening::{answers, open_file, open_file_by_one, open_text};
     pub use age_protocol::part::{at, write_part};
+    pub use age_protocol::payload::{open_all, seal_all};
     pub use age_protocol::whole::{decrypt_all, encrypt_all};
 }
 

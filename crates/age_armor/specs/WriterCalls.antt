@@ -1,6 +1,6 @@
 -- What the calls of an `ArmoredWriter` say; of `write` and `flush` what they say besides what those of every writer do.
 use Rattle.std.specs.Prelude.{◌≡◌, ℕ, ◌+◌, ◌<◌, ◌≤◌, ◌⊎◌, ⊤, false, IsTrue, List, length, Result, Ok, Err, IfOk, IfErr, OnOk, OnErr, IsOk}
-use Rattle.age_error.specs.Refusals.{IsInterruption}
+use Rattle.age_error.specs.Refusals.{IsDevice, IsInterruption}
 use Rattle.age_error.specs.declared.io.Error.{Error}
 use Rattle.age_error.specs.declared.io.Error.TheVariants.{Failed, OutOfMemory}
 use Rattle.age_io.specs.Copying.{AppendsFront}
@@ -53,6 +53,7 @@ module _ {W : Type 0} (write : Ghosts W) where
     pub failed : IsFailed old → (result ≡ Err Failed) × (new ≡ old)
     pub why : IfErr result (Refused write.refuses old 0)
     pub patient : IfErr result (λ e. IsInterruption e → ⊥)
+    pub device : IfErr result (λ e. IsDevice e → write.faults (inner_of old) < write.faults (inner_of new))
 
   -- what comes of finishing the text, where the inner writer is handed back
   pub record FinishesText (writer : ArmoredWriter W) (result : Result W Error) : Type 0 where

@@ -1,6 +1,7 @@
 //! Writing armor.
 ghost use Rattle.std.specs.Prelude.{◌≡◌, ◌+◌, ◌*◌, ◌<◌, ◌≤◌, ℕ, true, false, IsTrue, List, [], length, take, IfOk, IfErr, OnOk, OnErr, IsOk, IsOkAnd, Some, codes, vec_len, vec_capacity};
 ghost use Rattle.std.specs.Result.{result_map_both};
+ghost use Rattle.age_error.specs.Refusals.{IsDevice};
 ghost use Rattle.age_error.specs.declared.io.Error.TheVariants.{OutOfMemory};
 ghost use Rattle.age_io.specs.Copying.{AppendsFront};
 ghost use Rattle.age_v1.specs.Armor.{armor, text_of};
@@ -79,12 +80,13 @@ impl<W: Write> ArmoredWriter<W> {
     }
 
     /// It makes a writer and refuses as `wrap_output` does, and hands `inner` back beside the refusal. A beginning of the text, whatever
-    /// follows, was written to it then (`front`).
+    /// follows, was written to it then (`front`), and where the refusal is a device's one of its calls failed (`device`).
     ///
     /// `wraps` says what the contract of `wrap_output` says, of the writer or of the refusal alone.
     pub fn begin(alloc: Global, inner: W, format: Format) -> Result<Self, (W, Error)>
         ensures wraps { WrapsOutput ⟦<W as Write>⟧ inner format (result_map_both (λ writer. writer) (λ back. back.1) result) }
         ensures front { IsTrue (W.tells inner) → IfErr result (λ back. (bytes : List ℕ) → AppendsFront W.appended (text_of format bytes) inner back.0) }
+        ensures device { IfErr result (λ back. IsDevice back.1 → W.faults inner < W.faults back.0) }
     {
         match format {
             Format::Binary => Ok(ArmoredWriter {
@@ -104,6 +106,7 @@ impl<W: Write> ArmoredWriter<W> {
     fn begin_armor(alloc: Global, mut inner: W) -> Result<Self, (W, Error)>
         ensures wraps { WrapsOutput ⟦<W as Write>⟧ inner AsciiArmor (result_map_both (λ writer. writer) (λ back. back.1) result) }
         ensures front { IsTrue (W.tells inner) → IfErr result (λ back. (bytes : List ℕ) → AppendsFront W.appended (armor bytes) inner back.0) }
+        ensures device { IfErr result (λ back. IsDevice back.1 → W.faults inner < W.faults back.0) }
     {
         let (held, columns, text) = match rooms(alloc) {
             Ok(rooms) => rooms,
@@ -241,7 +244,7 @@ impl<W: Write> ArmoredWriter<W> {
     /// `ClosesText` says that the inner writer was given the whole text, from before the writer was made (`ok`), and whatever it
     /// answers a beginning of what is left of it and so of the text (`left`, `front`), and in binary nothing (`binary`); what stays
     /// of it, and that it refuses later only as before (`same_form`, `same_tells`, `no_fewer_faults`, `narrows`); and when the writer
-    /// fails and why it refuses (`fails`, `failed`, `why`, `patient`).
+    /// fails and why it refuses (`fails`, `failed`, `why`, `patient`, `device`).
     pub fn close(&mut self) -> Result<(), Error>
         ensures { ClosesText ⟦<W as Write>⟧ self.old self.new result }
     {

@@ -1,13 +1,12 @@
 //! The commands on whole files.
-ghost use Rattle.std.specs.Prelude.{◌≡◌, ◌⊎◌, ℕ, List, length, IsTrue, Ok, Err, IfOk, OnOk, IfErr};
+ghost use Rattle.std.specs.Prelude.{◌≡◌, ◌⊎◌, ℕ, List, IsTrue, Ok, Err, IfOk, OnOk, IfErr};
 ghost use Rattle.age.specs.Armor.{text_of};
 ghost use Rattle.age.specs.Copying.{AppendsFront};
 ghost use Rattle.age.specs.DecryptingStreams.{DecryptsAll};
 ghost use Rattle.age.specs.EncryptErrors.{encrypt_refusal, OutOfMemory};
 ghost use Rattle.age.specs.FileErrors.{IfIo, IsEncryptError, EncryptsUnless};
 ghost use Rattle.age.specs.Identities.{IsFileFor};
-ghost use Rattle.age.specs.Reading.{IsQuiet};
-ghost use Rattle.age.specs.WholeFiles.{RefusesFile};
+ghost use Rattle.age.specs.WholeFiles.{RefusesWriting};
 ghost use Rattle.age_bench.specs.Bench.{bench_seal};
 ghost use Rattle.age_bench.specs.Names.{answers_of, file_by, gives_of};
 ghost use Rattle.age_bench.specs.Recipient.{bench_grease};
@@ -46,8 +45,8 @@ fn grease(alloc: Global) -> Result<Grease, EncryptError>
 /// `grease` too. It refuses as `encrypt_all` does; an error of encryption is want of memory, or what the random bytes come to:
 /// `ShortRandom` where there are too few, for an X25519 recipient `ZeroSharedSecret`, and for a passphrase `WorkFactorRefused`, where
 /// its work factor isn't one that the suite accepts. After any other refusal a beginning of the file in this form was appended, of all
-/// that the input had (`front`). Where the reader has no fault, such a refusal is the writer's, want of memory, or `TooLong` for an
-/// input past 2^60 bytes.
+/// that the input had (`front`). Such a refusal is the reader's, the writer's, want of memory, or `TooLong` for an input past 2^60
+/// bytes; the reader's only where it has a fault (`io`).
 pub fn encrypt_to<R: Read, W: Write>(
     alloc: Global,
     to: To,
@@ -68,9 +67,7 @@ pub fn encrypt_to<R: Read, W: Write>(
         × (file_by to draw (R.rest reader.old).bytes ≡ Ok text)
         × AppendsFront W.appended (text_of format text) writer.old writer.new)) }
     ensures why { IfErr result (EncryptsUnless (λ refusal. (refusal ≡ OutOfMemory) ⊎ ((plain : List ℕ) → file_by to draw plain ≡ Err refusal))) }
-    ensures io { IfErr result (IfIo (λ e.
-        IsTrue (R.tells reader.old) → IsTrue (R.rest reader.old).ends_well → IsQuiet (R.faults reader.old) (R.faults reader.new) →
-        RefusesFile W.refuses writer.old (length (R.rest reader.old).bytes) e)) }
+    ensures io { IfErr result (IfIo (RefusesWriting ⟦<R as Read>⟧ ⟦<W as Write>⟧ reader.old reader.new writer.old writer.new)) }
 {
     let mut draw = draw;
     let grease = grease(alloc)?;

@@ -10,6 +10,5 @@ pub mod names;
 mod number;
 pub mod opening;
 pub mod part;
-pub mod payload;
 pub mod recipient;
 pub mod suite;

@@ -47,15 +47,15 @@ want_back P size (Encrypt e) want = absurd want
 want_back P size (Decrypt e) want = want
 
 -- and a plaintext for that, for its length, or as the encryptor refuses, where it is encrypted into a list
-pub refused_back : {W A B C : Type 0} (X : Type 0) (w : W) (size told : ℕ) (P : EncryptRefusal → Type 0) (e : FileError) → size ≡ told → A → B → C
-    → EncryptsUnless P e → IfIo (λ x. X × (A → B → C → RefusesFile ForMemory w size x)) e → RefusesBack P told e
-refused_back X w size told P (Io e) same a b c why (x, refused) = elim (refused a b c) [
+pub refused_back : {W : Type 0} (X : Type 0) (Why : Error → Type 0) (w : W) (size told : ℕ) (P : EncryptRefusal → Type 0) (e : FileError) → size ≡ told
+    → EncryptsUnless P e → IfIo (λ x. X × Why x) e → ((x : Error) → Why x → RefusesFile ForMemory w size x) → RefusesBack P told e
+refused_back X Why w size told P (Io e) same why (x, refused) of_file = elim (of_file e refused) [
   | inl long ↦ inr (long.0, subst (λ (n : ℕ). 2 ^ 60 < n) same long.1)
   | inr (inl memory) ↦ inl memory
   | inr (inr hands) ↦ inl (handed w e hands)
 ]
-refused_back X w size told P (Encrypt e) same a b c why i = why
-refused_back X w size told P (Decrypt e) same a b c why i = absurd why
+refused_back X Why w size told P (Encrypt e) same why i of_file = why
+refused_back X Why w size told P (Decrypt e) same why i of_file = absurd why
 
 -- ---- of any writer
 
@@ -65,9 +65,10 @@ want_rekeying P refuses w size (Io e) want = inr (inl want)
 want_rekeying P refuses w size (Encrypt e) want = absurd want
 want_rekeying P refuses w size (Decrypt e) want = want
 
-pub refused_rekeying : {W A B C : Type 0} (X : Type 0) (refuses : W → ℕ → Error → Type 0) (w : W) (size told : ℕ) (P : EncryptRefusal → Type 0)
-    (e : FileError)
-    → size ≡ told → A → B → C → EncryptsUnless P e → IfIo (λ x. X × (A → B → C → RefusesFile refuses w size x)) e → RefusesRekeying P refuses w told e
-refused_rekeying X refuses w size told P (Io e) same a b c why (x, refused) = subst (λ (n : ℕ). RefusesFile refuses w n e) same (refused a b c)
-refused_rekeying X refuses w size told P (Encrypt e) same a b c why i = why
-refused_rekeying X refuses w size told P (Decrypt e) same a b c why i = absurd why
+pub refused_rekeying : {W : Type 0} (X : Type 0) (Why : Error → Type 0) (refuses : W → ℕ → Error → Type 0) (w : W) (size told : ℕ)
+    (P : EncryptRefusal → Type 0) (e : FileError) → size ≡ told → EncryptsUnless P e → IfIo (λ x. X × Why x) e
+    → ((x : Error) → Why x → RefusesFile refuses w size x) → RefusesRekeying P refuses w told e
+refused_rekeying X Why refuses w size told P (Io e) same why (x, refused) of_file =
+    subst (λ (n : ℕ). RefusesFile refuses w n e) same (of_file e refused)
+refused_rekeying X Why refuses w size told P (Encrypt e) same why i of_file = why
+refused_rekeying X Why refuses w size told P (Decrypt e) same why i of_file = absurd why

@@ -86,12 +86,11 @@ unlisted list size plain e is (inr (inl memory)) = inl memory
 unlisted list size plain e is (inr (inr handed)) = inl (want-retried list handed.0 e handed.1)
 
 -- why encrypting is refused, where what keeps it from being written comes to this
-pub unencrypted : (Unprepared : EncryptRefusal → Type 0) (Known Told Well Quiet : Type 0) (Why Unwritten : Error → Type 0) (e : FileError)
-    → EncryptsUnless Unprepared e → IfIo (λ it. Known × (Told → Well → Quiet → Why it)) e → Told → Well → Quiet → ((it : Error) → Why it → Unwritten it)
-    → RefusesUnless Unprepared Unwritten e
-unencrypted Unprepared Known Told Well Quiet Why Unwritten (file.Encrypt e) why io told well quiet then_so = why
-unencrypted Unprepared Known Told Well Quiet Why Unwritten (file.Io e) why io told well quiet then_so = then_so e (io.1 told well quiet)
-unencrypted Unprepared Known Told Well Quiet Why Unwritten (file.Decrypt e) why io told well quiet then_so = absurd why
+pub unencrypted : (Unprepared : EncryptRefusal → Type 0) (Known : Type 0) (Why Unwritten : Error → Type 0) (e : FileError)
+    → EncryptsUnless Unprepared e → IfIo (λ it. Known × Why it) e → ((it : Error) → Why it → Unwritten it) → RefusesUnless Unprepared Unwritten e
+unencrypted Unprepared Known Why Unwritten (file.Encrypt e) why io then_so = why
+unencrypted Unprepared Known Why Unwritten (file.Io e) why io then_so = then_so e io.1
+unencrypted Unprepared Known Why Unwritten (file.Decrypt e) why io then_so = absurd why
 
 -- why decrypting a file for the identities is
 pub undecrypted : {T W : Type 0} (Unprepared : EncryptRefusal → Type 0) (refuses : W → ℕ → Error → Type 0) (writer : W) (size : ℕ) (result : Result T FileError)

@@ -89,5 +89,5 @@ module _ {T : Type 0} (wraps : T → List ℕ → List ℕ → WrapAnswer → Li
         let well : IsTrue (read.rest input).ends_well = rw rest refl in
         let size : length (read.rest input).bytes ≡ length plain = ap (λ (s : Stretch). length s.bytes) rest in
         subst (λ n. (e ≡ io.OutOfMemory) ⊎ ((e ≡ io.TooLong) × (2 ^ 60 < n))) size
-        (memory_alone write.refuses old (length (read.rest input).bytes) e memory (encrypts.io.1 told well quiet))
+        (memory_alone write.refuses old (length (read.rest input).bytes) e memory (encrypts.io.1.why told well quiet))
     why_no_file (File (file.Decrypt e)) encrypts = encrypts.why

@@ -51,7 +51,9 @@ pub record CopiesAll {R W T : Type 0} (read : Ghosts R) (write : WriteGhosts W) 
   pub all : IsTrue (read.tells old) → IsTrue (write.tells before) → OnOk result
       (IsTrue (read.rest old).ends_well × write.appended before (read.rest old).bytes after)
   pub front : IsTrue (read.tells old) → IsTrue (write.tells before) → AppendsFront write.appended (read.rest old).bytes before after
-  pub narrows : IsTrue (read.tells old) → OnOk result (Narrows (Retried write.refuses) before (length (read.rest old).bytes) after)
+  -- the writer after so many bytes, of which there are as many as the reader had where it tells them
+  pub narrows : OnOk result ((n : ℕ) × (IsTrue (read.tells old) → n ≡ length (read.rest old).bytes) × Narrows (Retried write.refuses) before n after)
+  pub no_fewer_faults : write.faults before ≤ write.faults after
   -- where the reader stands then
   pub stands : OnOk result (GivesInAll read.tells read.steady read.content read.place read.rest read.faults (TriedAgain read.refuses)
       old new (read.rest old).bytes)

@@ -5,7 +5,10 @@ use Rattle.age_error.specs.Refusals.{IsDevice}
 use Rattle.age_error.specs.DecryptErrors.{DecryptRefusal, IfIoRefusal, InvalidMac, IsDeviceRefusal, OutOfMemory, decrypt_of_io, decrypt_refusal}
 use Rattle.age_error.specs.EncryptErrors.{EncryptRefusal, encrypt_of_io, encrypt_refusal}
 use Rattle.age_error.specs.declared.io.Error.{Error}
+use Rattle.age_io.specs.Reading.{IsQuiet, TriedAgain}
 use Rattle.age_io.specs.Stretch.{Stretch, whole}
+use Rattle.age_io.specs.declared.traits.Read.{Ghosts as ReadGhosts}
+use Rattle.age_io.specs.declared.traits.Write.{Ghosts as WriteGhosts}
 use Rattle.age_v1.specs.Armor.{Carries}
 use Rattle.age_v1.specs.DeliveredArmor.{Refused, stretch_of, text_delivers}
 use Rattle.age_v1.specs.HeaderTexts.{canonical}
@@ -28,6 +31,20 @@ use Rattle.age_error.specs.declared.io.Error.TheVariants as io
 -- bytes, memory was refused, or the writer refuses, whatever it is given and with its interruptions tried again.
 abbrev pub RefusesFile : {W : Type 0} → (W → ℕ → Error → Type 0) → W → ℕ → Error → Type 0
 RefusesFile refuses writer size e = ((e ≡ io.TooLong) × (2 ^ 60 < size)) ⊎ RefusesChunk refuses writer e
+
+-- Why a plaintext isn't written that has some bytes, and this many of them where that is told.
+abbrev pub RefusesSomeFile : {W : Type 0} → (W → ℕ → Error → Type 0) → W → Type 0 → ℕ → Error → Type 0
+RefusesSomeFile refuses writer told size e = ((some : ℕ) × RefusesFile refuses writer some e) × (told → RefusesFile refuses writer size e)
+
+-- Why what a reader still has isn't written as a file.
+pub record RefusesWriting {R W : Type 0} (read : ReadGhosts R) (write : WriteGhosts W) (old new : R) (before after : W) (e : Error) : Type 0 where
+  -- of every reader: it refuses, or its plaintext isn't written
+  pub named : TriedAgain read.refuses old e ⊎ RefusesSomeFile write.refuses before (IsTrue (read.tells old)) (length (read.rest old).bytes) e
+  -- where it has no fault
+  pub why : IsTrue (read.tells old) → IsTrue (read.rest old).ends_well → IsQuiet (read.faults old) (read.faults new)
+      → RefusesFile write.refuses before (length (read.rest old).bytes) e
+  -- where both tell their bytes, an error of a device is one that the reader or the writer counts
+  pub device : IsTrue (read.tells old) → IsTrue (write.tells before) → IsDevice e → (read.faults old < read.faults new) ⊎ (write.faults before < write.faults after)
 
 -- A refusal while a plaintext of this many bytes is written to memory: want of memory, or `TooLong` past 2^60 bytes.
 pub record RefusesOutput (size : ℕ) (refusal : EncryptRefusal) : Type 0 where

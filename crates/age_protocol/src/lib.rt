@@ -12,6 +12,7 @@ pub mod laws;
 pub mod migrate;
 pub mod opening;
 pub mod part;
+pub mod payload;
 pub mod simple;
 pub mod whole;
 

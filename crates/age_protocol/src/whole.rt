@@ -1,14 +1,11 @@
 //! Whole files from a reader to a writer, in flat memory.
-ghost use Rattle.std.specs.Prelude.{◌≡◌, ℕ, List, length, IsTrue, Some, Ok, Err, OnOk, IfErr};
+ghost use Rattle.std.specs.Prelude.{◌≡◌, ℕ, List, IsTrue, Some, Ok, Err, OnOk, IfErr};
 ghost use Rattle.age_io.specs.Copying.{AppendsFront};
-ghost use Rattle.age_io.specs.Reading.{IsQuiet};
 ghost use Rattle.age_v1.specs.Encrypting.{Prepared, Prepares};
 ghost use Rattle.age_error.specs.Bytes.{AreBytes};
 ghost use Rattle.age_v1.specs.File.{IsFileOf, file_text};
-ghost use Rattle.age_v1.specs.Payload.{payload};
-ghost use Rattle.age_stream.specs.Writing.{WasMade, inner_of};
 ghost use Rattle.age_protocol.specs.PrivateWriting.{EndsText, WritesMade};
-ghost use Rattle.age_protocol.specs.WholeFiles.{RefusesFile};
+ghost use Rattle.age_protocol.specs.WholeFiles.{RefusesWriting};
 ghost use Rattle.age_v1.specs.Armor.{text_of};
 ghost use Rattle.age_v1.specs.Claims.{AppendsFile};
 ghost use Rattle.age_error.specs.FileErrors.{IfIo, IsEncryptError, EncryptsUnless};
@@ -18,14 +15,14 @@ ghost use Rattle.age_v1.specs.Identities.{AnswersFirst, GivesFirst, FirstAnswer,
 use crate::encryptor::Encryptor;
 use crate::laws::files_carry_themselves;
 use crate::opening::open_file;
+use crate::payload::write_payload;
 use age_armor::{
     ArmoredReader, ArmoredWriter, Format, armor_is_carrying, sent_law as sent_in_armor,
 };
 use age_error::{FileError, io};
 use age_format::{Grease, Identity, Recipient};
 use age_io::{BufReader, Read, Write, copy_all, flush_retrying};
-use age_stream::laws::{reader_law, sent_law};
-use age_stream::writer::StreamWriter;
+use age_stream::laws::reader_law;
 use age_suite::draw::Draw;
 use age_suite::suite::Suite;
 use std::alloc::Global;
@@ -58,11 +55,10 @@ pub fn encrypt_all<S: Suite, T: Recipient, R: Read, W: Write>(
     ensures front { IsTrue (R.tells reader.old) → IsTrue (W.tells writer.old) → IfErr result (IfIo (λ _.
         (file : Prepared) × Prepares T.wraps recipients.now (Some grease) draw.old (Ok file) draw.new
         × AppendsFront W.appended (text_of format (file_text S.seal_of file.file_key file.stanzas file.nonce (R.rest reader.old).bytes)) writer.old writer.new)) }
-    // The file was prepared; where the reader has no fault, the writer refuses, or memory or the length does.
+    // The file was prepared, and the reader refuses, or the writer, memory or the length does: the reader only where it has a fault.
     ensures io { IfErr result (IfIo (λ e.
         ((file : Prepared) × Prepares T.wraps recipients.now (Some grease) draw.old (Ok file) draw.new)
-        × (IsTrue (R.tells reader.old) → IsTrue (R.rest reader.old).ends_well → IsQuiet (R.faults reader.old) (R.faults reader.new) →
-        RefusesFile W.refuses writer.old (length (R.rest reader.old).bytes) e))) }
+        × RefusesWriting ⟦<R as Read>⟧ ⟦<W as Write>⟧ reader.old reader.new writer.old writer.new e)) }
 {
     files_carry_themselves::<S>();
     armor_is_carrying();
@@ -71,22 +67,6 @@ pub fn encrypt_all<S: Suite, T: Recipient, R: Read, W: Write>(
     match written.1 {
         Ok(()) => Ok(()),
         Err(error) => Err(FileError::Io(error)),
-    }
-}
-
-// Writes the payload of what `reader` still has. The writer of it takes no more then.
-fn write_payload<S: Suite, R: Read, W: Write>(
-    alloc: Global,
-    reader: &mut R,
-    stream: &mut StreamWriter<S, W>,
-) -> Result<(), io::Error>
-    ensures { (key : List ℕ) (first : W) → WasMade key first stream.old →
-        WritesMade ⟦<R as Read>⟧ ⟦<W as Write>⟧ (payload S.seal_of key) reader.old reader.new first (inner_of stream.new, result) }
-{
-    sent_law::<S, W>();
-    match copy_all(alloc, reader, stream) {
-        Ok(()) => stream.close(),
-        Err(error) => Err(error),
     }
 }
 

@@ -1,10 +1,11 @@
 -- What a `StreamWriter` has taken, and what it sent to its inner writer.
-use Rattle.std.specs.Prelude.{◌≡◌, ℕ, zero, suc, ◌+◌, ◌*◌, ◌^◌, ◌≤◌, ◌<◌, ◌⊎◌, true, false, List, [], ◌++◌, length, take, drop, vec_len, Result, IfOk, IsOk, OnErr, OnOk, Err, codes}
+use Rattle.std.specs.Prelude.{◌≡◌, ℕ, zero, suc, ◌+◌, ◌*◌, ◌^◌, ◌≤◌, ◌<◌, ◌⊎◌, true, false, List, [], ◌++◌, length, take, drop, vec_len, Result, IfErr, IfOk, IsOk, OnErr, OnOk, Err, codes}
 use Rattle.std.specs.Fmt.{decimal}
 use Rattle.age_error.specs.declared.io.Error.{Error}
 use Rattle.age_error.specs.declared.io.Error.TheVariants.{Failed, TooLong}
 use Rattle.age_io.specs.declared.traits.Write.{Ghosts as WriteGhosts}
 use Rattle.age_io.specs.Copying.{AppendsFront}
+use Rattle.age_io.specs.Writing.{KeepsWriter}
 use Rattle.age_stream.specs.Sending.{RefusesChunk}
 use Rattle.age_v1.specs.Payload.{Seal, chunk_nonce, last_piece, middle_seals, payload}
 use Rattle.age_stream.specs.declared.writer.StreamWriter.{StreamWriter}
@@ -95,6 +96,14 @@ pub record HandsBack {S W : Type 0} (write : WriteGhosts W) (old : StreamWriter 
   pub same_tells : write.tells inner ≡ write.tells (inner_of old)
   pub no_fewer_faults : write.faults (inner_of old) ≤ write.faults inner
   pub narrows : (e : Error) → RefusesChunk write.refuses inner e → RefusesChunk write.refuses (inner_of old) e
+
+-- What closing leaves: a writer that is failed. Where it had failed all is as it was, else the inner writer was given a chunk.
+pub record ClosesWriter {S W T : Type 0} (write : WriteGhosts W) (old new : StreamWriter S W) (result : Result T Error) : Type 0 where
+  pub failed : IsFailed old → (result ≡ Err Failed) × (new ≡ old)
+  pub fails : IsFailed new
+  pub why : IfErr result (Refused write.refuses old 0)
+  pub hands_back : OnOk result (HandsBack write old (inner_of new))
+  pub inner : IsGood old → KeepsWriter write.tells write.faults (RefusesChunk write.refuses) (inner_of old) (inner_of new) result
 
 module _ {S W : Type 0} (seal_of : Seal) (inner_appended : W → List ℕ → W → Type 0) where
   -- the writer took these bytes: of what it held and these, the first pieces went out as middle chunks, and it holds the rest

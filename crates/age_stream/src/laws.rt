@@ -70,7 +70,7 @@ pub fn writer_law<S: Suite, W: Write>(writer: &StreamWriter<S, W>)
 ///   beginning of the payload of that plaintext, and of each that begins with it. So this holds after every call that speaks of
 ///   `appended` alone, as `write_all` and `copy_all`, also after a refused one.
 /// - `close`: where it was then closed, whatever that answered, the inner writer was given a beginning of the plaintext's payload. What
-///   `close` appended is told by its clause `front`, and that it leaves a failed writer as it is by `failed`.
+///   `close` appended is told by its clause `front`, and that it leaves a failed writer as it is by `failed` of `closes`.
 pub fn sent_law<S: Suite, W: Write>()
     ensures write { SendsPayload S.seal_of W.appended ⟦<StreamWriter<S, W> as Write>⟧.appended }
     ensures calls { SendsFrontOfPayload S.seal_of W.appended ⟦<StreamWriter<S, W> as Write>⟧.appended }

@@ -201,7 +201,7 @@ impl<S: Suite, W: Write> StreamWriter<S, W> {
 }
 
 impl<S: Suite, W: Write> StreamWriter<S, W> {
-    ghost use Rattle.age_stream.specs.Writing.{Closes, HandsBack, IsFailed, IsGood, StaysWithin, inner_of, last_seal};
+    ghost use Rattle.age_stream.specs.Writing.{Closes, ClosesWriter, StaysWithin, inner_of, last_seal};
 
     /// Seals what is held as the last chunk, and writes it to the inner writer, which isn't flushed.
     ///
@@ -209,17 +209,14 @@ impl<S: Suite, W: Write> StreamWriter<S, W> {
     /// inner writer, `WriteZero` where that took no byte, or `OutOfMemory` where the suite was refused memory for the seal. After it
     /// the payload is cut off.
     ///
-    /// Whatever it answers, a beginning of the last chunk was appended to the inner writer (`front`), and the writer is failed (`fails`),
-    /// so that it takes no more. Where it failed before, the answer is `Failed`, and it stays as it is.
+    /// Whatever it answers, a beginning of the last chunk was appended to the inner writer (`front`), and the writer is failed, so that
+    /// it takes no more. Where it failed before, the answer is `Failed`, and it stays as it is. `ClosesWriter` says so (`failed`,
+    /// `fails`), why it refuses (`why`), and what stays of the inner writer (`hands_back`, `inner`).
     pub fn close(&mut self) -> Result<(), Error>
         ensures ok { let writer = ⟦<StreamWriter<S, W> as Write>⟧ in
             IsTrue (writer.tells self.old) → Closes S.seal_of W.appended writer.appended self.old self.new result }
         ensures within { StaysWithin ⟦<StreamWriter<S, W> as Write>⟧.appended self.old result }
-        ensures failed { IsFailed self.old → (result ≡ Err Failed) × (self.new ≡ self.old) }
-        ensures fails { IsFailed self.new }
-        ensures why { IfErr result (⟦<StreamWriter<S, W> as Write>⟧.refuses self.old 0) }
-        ensures hands_back { OnOk result (HandsBack ⟦<W as Write>⟧ self.old (inner_of self.new)) }
-        ensures inner { IsGood self.old → KeepsWriter W.tells W.faults (RefusesChunk W.refuses) (inner_of self.old) (inner_of self.new) result }
+        ensures closes { ClosesWriter ⟦<W as Write>⟧ self.old self.new result }
         ensures front { IsTrue (W.tells (inner_of self.old)) → AppendsFront W.appended (last_seal S.seal_of self.old) (inner_of self.old) (inner_of self.new) }
     {
         if self.failed {

@@ -3,7 +3,6 @@
 use crate::fixtures::{reader_of, sealed};
 use age::io::{Error, ErrorKind, Read, Write, read_exact, read_to_end, write_all};
 use age::stream::StreamWriter;
-use age_bench::payload::{open_all, seal_all};
 use age_bench::suite::BenchSuite;
 use age_devices::{Script, Sink, Source, Step};
 use std::alloc::Global;
@@ -378,13 +377,13 @@ fn is_done<E: Drop>(answer: Result<(), E>) -> bool {
 // Whether three bytes are sealed from such a device to such a device.
 fn seals(alloc: Global, input: &[Step], output: &[Step]) -> bool {
     let mut out = sink(alloc, output);
-    is_done(seal_all(alloc, KEY, &mut source(input, b"abc"), &mut out))
+    is_done(seal_all::<BenchSuite, _, _>(alloc, KEY, &mut source(input, b"abc"), &mut out))
 }
 
 // Whether a payload is opened from such a device to such a device.
 fn opens(alloc: Global, input: &[Step], output: &[Step], payload: &[u8]) -> bool {
     let mut out = sink(alloc, output);
-    is_done(open_all(alloc, KEY, &mut source(input, payload), &mut out))
+    is_done(open_all::<BenchSuite, _, _>(alloc, KEY, &mut source(input, payload), &mut out))
 }
 
 // Whether sealing is done between such devices, or not, as told, and opening too.

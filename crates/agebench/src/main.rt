@@ -3,12 +3,12 @@
 
 use age::draw::Draw;
 use age::io::{Error, Std};
-use age::streaming::FileError;
+use age::streaming::{FileError, open_all, seal_all};
 use age_bench::command::{Command, parse};
 use age_bench::file::{decrypt_with, encrypt_to};
 use age_bench::keygen::keygen;
 use age_bench::part::at_with;
-use age_bench::payload::{open_all, seal_all};
+use age_bench::suite::BenchSuite;
 use std::process::ExitCode;
 use std::{env, io};
 
@@ -46,8 +46,14 @@ fn run(rt: &HostRuntime, command: Command) -> Result<(), FileError> {
     let mut input = Std::new(rt.reader());
     let mut output = Std::new(io::writer(rt));
     match command {
-        Command::Seal { key } => seal_all(rt.alloc(), key, &mut input, &mut output),
-        Command::Open { key } => open_all(rt.alloc(), key, &mut input, &mut output),
+        Command::Seal { key } => {
+            seal_all::<BenchSuite, _, _>(rt.alloc(), key, &mut input, &mut output)
+                .map_err(FileError::Io)
+        }
+        Command::Open { key } => {
+            open_all::<BenchSuite, _, _>(rt.alloc(), key, &mut input, &mut output)
+                .map_err(FileError::Io)
+        }
         Command::Encrypt { to, draw, format } => {
             let draw = Draw::new(draw);
             encrypt_to(rt.alloc(), to, draw, format, &mut input, &mut output)

@@ -1,16 +1,15 @@
 -- What a command comes to that encrypts with the random bytes of a source.
-use Rattle.std.specs.Prelude.{◌≡◌, ◌⊎◌, ℕ, ◌+◌, ◌*◌, List, [], length, codes, Option, Some, Result, Ok, Err, IsTrue, OnOk, IfErr}
+use Rattle.std.specs.Prelude.{◌≡◌, ◌⊎◌, ℕ, ◌+◌, ◌*◌, List, [], codes, Option, Some, Result, Ok, Err, IsTrue, OnOk, IfErr}
 use Rattle.age.specs.Types.{FileError, Format}
 use Rattle.age.specs.Members.{SuiteMembers, ReadMembers, WriteMembers}
 use Rattle.age.specs.Copying.{AppendsFront}
-use Rattle.age.specs.Reading.{IsQuiet}
 use Rattle.age.specs.Stanza.{StanzaValue}
 use Rattle.age.specs.Recipients.{WrapAnswer}
 use Rattle.age.specs.EncryptErrors.{EncryptRefusal, OutOfMemory}
 use Rattle.age.specs.Encrypting.{Prepared, Prepares}
 use Rattle.age.specs.Claims.{AppendsFile}
 use Rattle.age.specs.File.{file_text}
-use Rattle.age.specs.WholeFiles.{RefusesFile}
+use Rattle.age.specs.WholeFiles.{RefusesWriting}
 use Rattle.age.specs.Armor.{text_of}
 use Rattle.age.specs.FileErrors.{IfIo, IsEncryptError, EncryptsUnless}
 use Rattle.sazh_core.specs.Random.{GaveRandom, GaveNone}
@@ -62,7 +61,5 @@ module _ {B T : Type 0} (gives : B → ℕ → Option (List ℕ) → B → Type 
     pub front : IsTrue (read.tells input) → IsTrue (write.tells old) → IfErr result (IfFile (IfIo (λ _.
         (file : Prepared) × PreparesFrom (Ok file) × AppendsFront write.appended
         (text_of format (file_text suite.seal_of file.file_key file.stanzas file.nonce (read.rest input).bytes)) old new)))
-    -- After such an error the file was prepared; where the reader has no fault, the writer refuses, or memory or the length does.
-    pub io : IfErr result (IfFile (IfIo (λ e. ((file : Prepared) × PreparesFrom (Ok file))
-        × (IsTrue (read.tells input) → IsTrue (read.rest input).ends_well → IsQuiet (read.faults input) (read.faults last)
-        → RefusesFile write.refuses old (length (read.rest input).bytes) e))))
+    -- After such an error the file was prepared, and the reader refuses, or the writer, memory or the length does: the reader only where it has a fault.
+    pub io : IfErr result (IfFile (IfIo (λ e. ((file : Prepared) × PreparesFrom (Ok file)) × RefusesWriting read write input last old new e)))

@@ -2,8 +2,7 @@
 
 use crate::done::is_done;
 use age::io::{Bytes, Error, ErrorKind};
-use age::streaming::FileError;
-use age_bench::payload::{open_all, seal_all};
+use age::streaming::{FileError, open_all, seal_all};
 use age_bench::suite::BenchSuite;
 use std::alloc::Global;
 use std::process::Abort;
@@ -33,7 +32,7 @@ fn seals(
     payload: &[u8],
 ) -> Result<bool, Fail> {
     let mut sealed = Vec::from_slice(alloc, before)?;
-    let is_sealed = is_done(seal_all(alloc, key, &mut Bytes::new(plain), &mut sealed));
+    let is_sealed = is_done(seal_all::<BenchSuite, _, _>(alloc, key, &mut Bytes::new(plain), &mut sealed));
     Ok(is_sealed && sealed.strip_prefix(before) == Some(payload))
 }
 
@@ -46,7 +45,7 @@ fn opens(
     plain: &[u8],
 ) -> Result<bool, Fail> {
     let mut opened = Vec::from_slice(alloc, before)?;
-    let is_opened = is_done(open_all(alloc, key, &mut Bytes::new(payload), &mut opened));
+    let is_opened = is_done(open_all::<BenchSuite, _, _>(alloc, key, &mut Bytes::new(payload), &mut opened));
     Ok(is_opened && opened.strip_prefix(before) == Some(plain))
 }
 
@@ -84,7 +83,7 @@ fn is_refused(alloc: Global, payload: &[u8], written: usize, text: &str) -> Resu
     let mut opened = Vec::new(alloc);
     let is_refused = is_refusal(
         alloc,
-        open_all(alloc, KEY, &mut Bytes::new(payload), &mut opened),
+        open_all::<BenchSuite, _, _>(alloc, KEY, &mut Bytes::new(payload), &mut opened),
         text,
     );
     Ok(is_refused && opened.as_slice() == plaintext(alloc, written)?.as_slice())

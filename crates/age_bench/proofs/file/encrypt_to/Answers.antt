@@ -7,9 +7,8 @@ use Rattle.age.specs.EncryptErrors.{EncryptRefusal, OutOfMemory}
 use Rattle.age.specs.FileErrors.{IfIo, EncryptsUnless}
 use Rattle.age.specs.Encrypting.{Prepared, Prepares}
 use Rattle.age.specs.File.{file_text}
-use Rattle.age.specs.Reading.{IsQuiet}
 use Rattle.age.specs.Types.{Error}
-use Rattle.age.specs.WholeFiles.{RefusesFile}
+use Rattle.age.specs.WholeFiles.{RefusesWriting}
 use Rattle.age.proofs.DecryptingStreams.{io_weaker}
 use Rattle.age_bench.specs.Bench.{bench_seal}
 use Rattle.age_bench.specs.Names.{WrapsTo, file_by}
@@ -55,9 +54,7 @@ pub returns-clause-io : goal.returns-clause-io
 returns-clause-io g c =
     let draw = c.args.draw in
     let reader = c.args.reader.now in
-    let caused : Error → Type 0 = λ e. IsTrue (g.R.Read.tells reader) → IsTrue (g.R.Read.rest reader).ends_well
-    → IsQuiet (g.R.Read.faults reader) (g.R.Read.faults c.encrypt_all.new.reader)
-    → RefusesFile g.W.Write.refuses c.args.writer.now (length (g.R.Read.rest reader).bytes) e in
+    let caused : Error → Type 0 = RefusesWriting g.R.Read g.W.Write reader c.encrypt_all.new.reader c.args.writer.now c.encrypt_all.new.writer in
     let told : Error → Type 0 =
     λ e. ((file : Prepared) × Prepares WrapsTo (c.args.to ∷ []) (Some bench_grease) draw (Ok file) c.encrypt_all.new.draw) × caused e in
     IfErr-weaker c.encrypt_all.result (IfIo told) (IfIo caused) (io_weaker told caused (λ e why. why.1))

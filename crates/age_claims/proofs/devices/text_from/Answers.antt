@@ -9,10 +9,10 @@ use Rattle.age_claims.proofs.devices.text_from.Goals as goal
 pub returns-in-Err-clause-refused : goal.returns-in-Err-clause-refused
 returns-in-Err-clause-refused g c = λ told well quiet.
     let size = length (g.R.Read.rest c.args.reader.now).bytes in
-    refused_back _ c.new-text.result size size
+    refused_back _ _ c.new-text.result size size
     (λ refusal. Prepares g.T.Recipient.wraps c.args.recipients.now (Some c.args.grease) c.args.draw.now (Err refusal) c.encrypt_all.new.draw)
-    c.in-Err.error refl told well quiet
-    c.in-Err.ensures.why c.in-Err.ensures.io
+    c.in-Err.error refl
+    c.in-Err.ensures.why c.in-Err.ensures.io (λ e refused. refused.why told well quiet)
 
 pub returns-in-Ok-clause-text : goal.returns-in-Ok-clause-text
 returns-in-Ok-clause-text g c = λ told one belongs keeps.

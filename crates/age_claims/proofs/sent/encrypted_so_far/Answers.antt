@@ -38,7 +38,7 @@ returns-in-Ok-copy_all-clause-begun g c = λ reader_told told.
     let told_below : g.W.Write.tells (inner_of writer) ≡ true = ap g.W.Write.tells started.made.same_inner ∙ (started.same_tells ∙ told) in
     let copied = c.in-Ok-copy_all.ensures.all reader_told told_below in
     let sent = c.sent_law.ensures.close writer c.copy_all.new.writer (payload_key file.file_key file.nonce) rest started.inner (inner_of closed)
-    started.made copied.1 (λ failed. ap (λ w. inner_of w) (c.close-closed.ensures.failed failed).1)
+    started.made copied.1 (λ failed. ap (λ w. inner_of w) (c.close-closed.ensures.closes.failed failed).1)
     (c.close-closed.ensures.front (c.in-Ok-copy_all.ensures.tells ∙ told_below)) in
     rw c.into_inner-in-Ok-copy_all.ensures
     (begun-file seal_of below g.met.W.Write.joins file rest c.args.output started.inner (inner_of closed) (started.front told) sent)

@@ -7,10 +7,10 @@ use Rattle.age_claims.proofs.texts.text_for.Goals as goal
 
 pub returns-in-Err-clause-refused : goal.returns-in-Err-clause-refused
 returns-in-Err-clause-refused g c =
-    refused_back _ c.new-file.result _ (length c.args.plain.now)
+    refused_back _ _ c.new-file.result _ (length c.args.plain.now)
     (λ refusal. Prepares g.T.Recipient.wraps c.args.recipients.now (Some c.args.grease) c.args.draw.now (Err refusal) c.encrypt_all.new.draw)
-    c.in-Err.error (ap (λ s. length s.bytes) c.new-input.ensures.rest) refl refl (record { same = refl; below = omega arith })
-    c.in-Err.ensures.why c.in-Err.ensures.io
+    c.in-Err.error (ap (λ s. length s.bytes) c.new-input.ensures.rest)
+    c.in-Err.ensures.why c.in-Err.ensures.io (λ e refused. refused.why refl refl (record { same = refl; below = omega arith }))
 
 pub returns-in-Ok-clause-text : goal.returns-in-Ok-clause-text
 returns-in-Ok-clause-text g c = λ one belongs keeps.

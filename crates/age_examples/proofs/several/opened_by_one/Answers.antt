@@ -31,5 +31,6 @@ returns-in-Err-decrypt-clause-refused g c = λ one keeps.
 pub returns-in-Err-clause-refused : goal.returns-in-Err-clause-refused
 returns-in-Err-clause-refused g c = λ one keeps.
     let input = c.new-reader.ensures.rest in
-    unencrypted (Unprepared g.T.Recipient.wraps c.args.recipients.now c.args.grease c.args.draw.now c.encrypt_all.new.draw) _ _ _ _ _ _ c.in-Err.error c.in-Err.ensures.why c.in-Err.ensures.io refl (ap (λ s. s.ends_well) input)
-    (record { same = refl; below = omega arith }) (λ e. unlisted c.new-file.result _ c.args.plain.now e (ap (λ s. length s.bytes) input))
+    unencrypted (Unprepared g.T.Recipient.wraps c.args.recipients.now c.args.grease c.args.draw.now c.encrypt_all.new.draw) _ _ _ c.in-Err.error c.in-Err.ensures.why c.in-Err.ensures.io
+    (λ e refused. unlisted c.new-file.result _ c.args.plain.now e (ap (λ s. length s.bytes) input)
+    (refused.why refl (ap (λ s. s.ends_well) input) (record { same = refl; below = omega arith })))

@@ -42,8 +42,8 @@ returns-clause-plaintext g c = λ fits reader_told writer_told.
 pub returns-in_err-encrypt_all-clause-refused : goal.returns-in_err-encrypt_all-clause-refused
 returns-in_err-encrypt_all-clause-refused g c = λ always keeps told well quiet.
     of_error _ _ _ c.from_residual.ensures.1
-    (unencrypted (Unprepared g.T.Recipient.wraps c.args.recipients.now c.args.grease c.args.draw.now c.encrypt_all.new.draw) _ _ _ _ _ _ c.in_err-encrypt_all.field-0.0 c.in_err-encrypt_all.ensures.why c.in_err-encrypt_all.ensures.io (and-left _ _ told) well quiet
-    (λ e. handed-to c.new-file.result g.W.Write.refuses c.args.writer.now _ e))
+    (unencrypted (Unprepared g.T.Recipient.wraps c.args.recipients.now c.args.grease c.args.draw.now c.encrypt_all.new.draw) _ _ _ c.in_err-encrypt_all.field-0.0 c.in_err-encrypt_all.ensures.why c.in_err-encrypt_all.ensures.io
+    (λ e refused. handed-to c.new-file.result g.W.Write.refuses c.args.writer.now _ e (refused.why (and-left _ _ told) well quiet)))
 
 pub returns-clause-refused : goal.returns-clause-refused
 returns-clause-refused g c = λ always keeps told well quiet.

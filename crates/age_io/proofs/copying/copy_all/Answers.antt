@@ -1,11 +1,11 @@
-use Rattle.std.proofs.Common.{rules, ◌≡◌, ◌<◌, ◌≤◌, IsTrue, ◌∙◌, refl, ap, subst, arith, length, length-append, take, inl, inr}
+use Rattle.std.proofs.Common.{rules, ◌≡◌, ◌+◌, ◌<◌, ◌≤◌, IsTrue, ◌∙◌, refl, ap, subst, arith, length, length-append, take, inl, inr}
 use Rattle.std.specs.Prelude.{⊤}
 use Rattle.age_error.specs.Refusals.{IsDevice}
-use Rattle.age_io.specs.Writing.{Narrows, Retried}
-use Rattle.age_io.specs.WritingLemmas.{narrows-same, retried-more, hands-on-narrows}
+use Rattle.age_io.specs.Writing.{Retried}
+use Rattle.age_io.specs.WritingLemmas.{narrows-same, narrows-both, retried-more}
 use Rattle.age_error.specs.ErrorLemmas.{of_error}
 use Rattle.age_io.proofs.Exiting.{OnOk-refused}
-use Rattle.age_io.proofs.Appending.{OnErr-of, left-fewer, left-refused}
+use Rattle.age_io.proofs.Appending.{OnErr-of}
 use Rattle.age_io.proofs.Delivering.{refilled}
 use Rattle.age_io.specs.ReadingLemmas.{quiet_from}
 use Rattle.age_io.proofs.Copied.{front-more, front-copied, all-copied, copied-stands, copied-more, copied-none, left-unasked, left-between, left-by-read, left-by-write, well-is-no-fault}
@@ -27,7 +27,8 @@ returns-in_err-room g c =
       device = of_error _ _ _ is (λ fault. absurd (subst IsDevice memory fault));
       why = λ told well quiet. of_error _ _ _ is (inl memory);
       named = of_error _ _ _ is (inl (inl memory));
-      narrows = λ told. OnOk-refused _ _ refused;
+      narrows = OnOk-refused _ _ refused;
+      no_fewer_faults = omega arith;
     }
 
 pub loop-piece-init : goal.loop-piece-init
@@ -35,8 +36,7 @@ loop-piece-init g c =
     let room = c.in_ok-room.ensures.length in
     record {
       writer_tells = refl;
-      has_left = λ told. record { given = 0; joined = omega arith; narrows = narrows-same (Retried g.W.Write.refuses) c.args.writer.now };
-      hands_on = λ e h. h;
+      given = (0, (λ told. omega arith), narrows-same (Retried g.W.Write.refuses) c.args.writer.now);
       writer_faults = omega arith;
       pieces = λ told. omega arith;
       room = omega (arith, room);
@@ -54,11 +54,16 @@ loop-piece-preserved g c =
     let filled = refilled room.items c.read_retrying.new.buf room.len room.ok.0 size in
     record {
       writer_tells = writes.same_tells ∙ before.writer_tells;
-      has_left = λ reader_told.
-          left-fewer (Retried g.W.Write.refuses) c.args.writer.now c.loop-piece.writer c.write_all.new.writer _ _ _ _
-          (ap length (reads.bytes (before.copied.gives.same_tells ∙ reader_told)).bytes ∙ length-append _ _) (before.has_left reader_told)
-          (rw (c.deref.ensures.value, filled) at writes.narrows);
-      hands_on = λ e h. before.hands_on e (hands-on-narrows g.W.Write.refuses c.loop-piece.writer c.write_all.new.writer _ writes.narrows e h);
+      given =
+          let (given, joined, narrows) = before.given in
+          let piece = take c.in_ok-count.count c.read_retrying.new.buf in (
+            given + length piece,
+            (λ reader_told.
+            let size = ap length (reads.bytes (before.copied.gives.same_tells ∙ reader_told)).bytes in
+            omega (arith, joined reader_told, size, length-append piece (read.rest c.read_retrying.new.reader).bytes)),
+            narrows-both (Retried g.W.Write.refuses) c.args.writer.now c.loop-piece.writer c.write_all.new.writer given (length piece) narrows
+            (rw (c.deref.ensures.value, filled) at writes.narrows),
+          );
       writer_faults = omega (arith, before.writer_faults, writes.no_fewer_faults);
       pieces = λ reader_told. omega (arith, before.pieces reader_told, reads.moves (before.copied.gives.same_tells ∙ reader_told), c.if-count-eq0.false);
       room = rw filled (omega (arith, size, before.room));
@@ -92,7 +97,8 @@ returns-in_err-count g c =
           of_error _ _ _ is (inl (well-is-no-fault e _ _ _ (reads.cause (gives.same_tells ∙ told))
           (quiet_from gives.no_fewer_faults reads.no_fewer_faults quiet) ((gives.bytes told).end ∙ well)));
       named = of_error _ _ _ is (inl (inr (inl (gives.narrows e reads.why))));
-      narrows = λ told. OnOk-refused _ _ refused;
+      narrows = OnOk-refused _ _ refused;
+      no_fewer_faults = before.writer_faults;
     }
 
 pub returns-in_err-write_all : goal.returns-in_err-write_all
@@ -109,15 +115,16 @@ returns-in_err-write_all g c =
     let filled = refilled room.items c.read_retrying.new.buf room.len room.ok.0 size in
     let refuses = Retried g.W.Write.refuses in
     let piece = take c.in_ok-count.count c.read_retrying.new.buf in
+    let (given, joined, narrows) = before.given in
     let why : refuses c.loop-piece.writer (length piece) e = rw (c.deref.ensures.value, filled) at writes.why in
     let took = λ (told : IsTrue (g.W.Write.tells c.args.writer.now)). rw (c.deref.ensures.value, filled) at (writes.takes_front (before.writer_tells ∙ told)) in
     -- what it refuses of this piece it may refuse of all that the reader had
     let of_all : IsTrue (read.tells c.args.reader.now) → refuses c.args.writer.now (length (read.rest c.args.reader.now).bytes) e = λ told.
     let came = reads.bytes (before.copied.gives.same_tells ∙ told) in
-    let left = (read.rest c.loop-piece.reader).bytes in
-    let fewer : length piece ≤ length left = omega (arith, ap length came.bytes, length-append piece (read.rest c.read_retrying.new.reader).bytes) in
-    left-refused refuses (retried-more g.W.Write.refuses g.met.W.Write.refuses_more) c.args.writer.now c.loop-piece.writer
-    (length (read.rest c.args.reader.now).bytes) (length left) (length piece) e fewer (before.has_left told) why in
+    let fewer : given + length piece ≤ length (read.rest c.args.reader.now).bytes
+    = omega (arith, joined told, ap length came.bytes, length-append piece (read.rest c.read_retrying.new.reader).bytes) in
+    retried-more g.W.Write.refuses g.met.W.Write.refuses_more c.args.writer.now (given + length piece) (length (read.rest c.args.reader.now).bytes) e fewer
+    (narrows (length piece) e why) in
     record {
       tells = writes.same_tells ∙ before.writer_tells;
       all = λ told writer_told. OnOk-refused _ _ refused;
@@ -131,8 +138,9 @@ returns-in_err-write_all g c =
           c.read_retrying.new.buf c.in_ok-count.count tt before.copied.gives before.copied.out reads took);
       device = of_error _ _ _ is (λ fault. inr (omega (arith, before.writer_faults, writes.device fault)));
       why = λ told well quiet. of_error _ _ _ is (inr (of_all told));
-      named = of_error _ _ _ is (inl (inr (inr (before.hands_on e (length piece, why), of_all))));
-      narrows = λ told. OnOk-refused _ _ refused;
+      named = of_error _ _ _ is (inl (inr (inr ((given + length piece, narrows (length piece) e why), of_all))));
+      narrows = OnOk-refused _ _ refused;
+      no_fewer_faults = omega (arith, before.writer_faults, writes.no_fewer_faults);
     }
 
 pub returns-then-count-eq0 : goal.returns-then-count-eq0
@@ -158,10 +166,10 @@ returns-then-count-eq0 g c =
       device = tt;
       why = λ told well quiet. tt;
       named = tt;
-      narrows = λ told.
-          let left = before.has_left told in
-          let whole : left.given ≡ length (g.R.Read.rest c.args.reader.now).bytes = omega (arith, left.joined, ap length (clean told).bytes) in
-          subst (λ n. Narrows (Retried g.W.Write.refuses) c.args.writer.now n c.loop-piece.writer) whole left.narrows;
+      narrows =
+          let (given, joined, narrows) = before.given in
+          (given, (λ told. omega (arith, joined told, ap length (clean told).bytes)), narrows);
+      no_fewer_faults = before.writer_faults;
     }
 
 pub returns : goal.returns
@@ -173,7 +181,8 @@ returns g c =
       front = λ told writer_told.
           front-copied g.R.Read g.W.Write.tells g.W.Write.appended
           c.args.reader.now c.loop-piece.reader c.args.writer.now c.loop-piece.writer before.copied told writer_told;
-      narrows = λ told. tt;
+      narrows = tt;
+      no_fewer_faults = before.writer_faults;
       stands = tt;
       left =
           left-between g.R.Read g.W.Write.tells g.W.Write.appended (λ _. ⊤)

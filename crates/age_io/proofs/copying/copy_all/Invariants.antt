@@ -1,8 +1,6 @@
-use Rattle.std.proofs.Common.{◌≡◌, ◌<◌, ◌≤◌, IsTrue, length}
+use Rattle.std.proofs.Common.{◌≡◌, ◌+◌, ◌<◌, ◌≤◌, IsTrue, length, ℕ}
 use Rattle.age_io.proofs.Copied.{IsCopied}
-use Rattle.age_error.specs.declared.io.Error.{Error}
-use Rattle.age_io.specs.Writing.{Retried, HandsOn}
-use Rattle.age_io.proofs.Appending.{HasLeft}
+use Rattle.age_io.specs.Writing.{Narrows, Retried}
 use Rattle.age_io.proofs.copying.copy_all.Given as goal
 
 abbrev pub invariant-loop-piece : goal.invariant-loop-piece
@@ -11,9 +9,8 @@ invariant-loop-piece g l =
     let writer = g.W.Write in
     record {
       writer_tells : writer.tells l.writer ≡ writer.tells l.fn.writer;
-      has_left : IsTrue (reader.tells l.fn.reader) →
-          HasLeft (Retried writer.refuses) l.fn.writer l.writer (length (reader.rest l.fn.reader).bytes) (length (reader.rest l.reader).bytes);
-      hands_on : (e : Error) → HandsOn writer.refuses l.writer e → HandsOn writer.refuses l.fn.writer e;
+      given : (n : ℕ) × (IsTrue (reader.tells l.fn.reader) → length (reader.rest l.fn.reader).bytes ≡ n + length (reader.rest l.reader).bytes)
+          × Narrows (Retried writer.refuses) l.fn.writer n l.writer;
       writer_faults : writer.faults l.fn.writer ≤ writer.faults l.writer;
       pieces : IsTrue (reader.tells l.fn.reader) → l._piece ≤ reader.place l.reader;
       room : 0 < length l.room.items;

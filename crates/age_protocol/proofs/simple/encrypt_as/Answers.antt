@@ -27,6 +27,6 @@ returns-in-Err-Io g c =
         error = c.in-Err-Io.e;
         is = ap (λ e. encrypt_refusal e) c.from.ensures;
         why = memory-refused c.new-file.result _ c.args.plaintext.now c.in-Err-Io.e c.new-reader.ensures.rest
-            (refused refl refl (record { same = refl; below = omega arith }));
+            (refused.why refl refl (record { same = refl; below = omega arith }));
       },
     )

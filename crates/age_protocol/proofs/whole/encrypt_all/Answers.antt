@@ -32,4 +32,16 @@ returns-in-Ok-clause-file g c = λ reader_told writer_told.
     )
 
 pub returns-in-Err-clause-io : goal.returns-in-Err-clause-io
-returns-in-Err-clause-io g c = ((c.in_ok-encryptor.encryptor, c.in_ok-encryptor.ensures), rw c.in-Err.is at c.write_file-written.ensures.made.why)
+returns-in-Err-clause-io g c =
+    let made = c.write_file-written.ensures.made in
+    let refused = rw c.in-Err.is at made.refused in (
+      (c.in_ok-encryptor.encryptor, c.in_ok-encryptor.ensures),
+      record {
+        named = refused.named;
+        why = refused.why;
+        device = λ reader_told writer_told is.
+            let out = (made.front reader_told writer_told).out in
+            let device = refused.device reader_told writer_told is in
+            search rules;
+      },
+    )

@@ -22,6 +22,7 @@ returns-then-self g c = record {
   failed = search rules;
   why = search rules;
   patient = search rules;
+  device = search rules;
 }
 
 -- in binary
@@ -42,6 +43,7 @@ returns-then-not-self g c = let w = g.W.Write in
       failed = search rules;
       why = search rules;
       patient = search rules;
+      device = search rules;
     }
 
 pub returns : goal.returns
@@ -65,4 +67,5 @@ returns g c = let w = g.W.Write in
       failed = search rules;
       why = search rules;
       patient = search rules;
+      device = search rules;
     }

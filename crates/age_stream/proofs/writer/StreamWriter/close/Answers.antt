@@ -1,4 +1,4 @@
-use Rattle.std.proofs.Common.{◌≡◌, ◌∙◌, ℕ, ◌+◌, ◌-◌, ◌*◌, ◌≤◌, ◌++◌, List, length, drop, ap, arith, length-drop}
+use Rattle.std.proofs.Common.{rules, ◌≡◌, ◌∙◌, ℕ, ◌+◌, ◌-◌, ◌*◌, ◌≤◌, ◌++◌, List, length, drop, ap, arith, length-drop}
 use Rattle.age_io.specs.CopyingLemmas.{front-none}
 use Rattle.age_stream.specs.Writing.{WasMade, Took}
 use Rattle.age_stream.specs.WritingLemmas.{Appended-took, sealed-last}
@@ -32,6 +32,23 @@ returns-clause-within g c = λ start key plain first made appended.
     let all = all_taken g.S.Suite.seal_of g.W.Write.appended key plain first start writer made
     (Appended-took g.S.Suite.seal_of g.W.Write.appended start writer plain c.if-self.false appended) in
     omega (arith, all, writer.in_limit, writer.held.ok.0)
+
+pub returns-clause-closes : goal.returns-clause-closes
+returns-clause-closes g c =
+    let keeps = c.in_ok-write_chunk.ensures.keeps in
+    record {
+      failed = search rules;
+      fails = search rules;
+      why = search rules;
+      hands_back = record { same_tells = keeps.same_tells; no_fewer_faults = keeps.no_fewer_faults; narrows = keeps.narrows };
+      inner = λ good. record {
+        same_tells = keeps.same_tells;
+        no_fewer_faults = keeps.no_fewer_faults;
+        device = tt;
+        why = tt;
+        narrows = keeps.narrows;
+      };
+    }
 
 -- it had failed
 pub returns-then-self-clause-front : goal.returns-then-self-clause-front
