@@ -41,7 +41,7 @@ pub fn seal_all<S: Suite, R: Read, W: Write>(
     let sealed = seal_into::<S, R, &mut W>(alloc, key, reader, writer);
     match sealed.1 {
         Ok(()) => Ok(()),
-        Err(error) => Err(error),
+        Err(e) => Err(e),
     }
 }
 

@@ -3,6 +3,7 @@
 use crate::fixtures::{reader_of, sealed};
 use age::io::{Error, ErrorKind, Read, Write, read_exact, read_to_end, write_all};
 use age::stream::StreamWriter;
+use age::streaming::{open_all, seal_all};
 use age_bench::suite::BenchSuite;
 use age_devices::{Script, Sink, Source, Step};
 use std::alloc::Global;

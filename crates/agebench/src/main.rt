@@ -47,12 +47,14 @@ fn run(rt: &HostRuntime, command: Command) -> Result<(), FileError> {
     let mut output = Std::new(io::writer(rt));
     match command {
         Command::Seal { key } => {
-            seal_all::<BenchSuite, _, _>(rt.alloc(), key, &mut input, &mut output)
-                .map_err(FileError::Io)
+            seal_all::<BenchSuite, _, _>(rt.alloc(), key, &mut input, &mut output).map_err(
+                FileError::Io,
+            )
         }
         Command::Open { key } => {
-            open_all::<BenchSuite, _, _>(rt.alloc(), key, &mut input, &mut output)
-                .map_err(FileError::Io)
+            open_all::<BenchSuite, _, _>(rt.alloc(), key, &mut input, &mut output).map_err(
+                FileError::Io,
+            )
         }
         Command::Encrypt { to, draw, format } => {
             let draw = Draw::new(draw);

@@ -32,7 +32,12 @@ fn seals(
     payload: &[u8],
 ) -> Result<bool, Fail> {
     let mut sealed = Vec::from_slice(alloc, before)?;
-    let is_sealed = is_done(seal_all::<BenchSuite, _, _>(alloc, key, &mut Bytes::new(plain), &mut sealed));
+    let is_sealed = is_done(seal_all::<BenchSuite, _, _>(
+        alloc,
+        key,
+        &mut Bytes::new(plain),
+        &mut sealed,
+    ));
     Ok(is_sealed && sealed.strip_prefix(before) == Some(payload))
 }
 
@@ -45,7 +50,12 @@ fn opens(
     plain: &[u8],
 ) -> Result<bool, Fail> {
     let mut opened = Vec::from_slice(alloc, before)?;
-    let is_opened = is_done(open_all::<BenchSuite, _, _>(alloc, key, &mut Bytes::new(payload), &mut opened));
+    let is_opened = is_done(open_all::<BenchSuite, _, _>(
+        alloc,
+        key,
+        &mut Bytes::new(payload),
+        &mut opened,
+    ));
     Ok(is_opened && opened.strip_prefix(before) == Some(plain))
 }
 

@@ -59,10 +59,10 @@ loop-piece-preserved g c =
           let piece = take c.in_ok-count.count c.read_retrying.new.buf in (
             given + length piece,
             (λ reader_told.
-            let size = ap length (reads.bytes (before.copied.gives.same_tells ∙ reader_told)).bytes in
-            omega (arith, joined reader_told, size, length-append piece (read.rest c.read_retrying.new.reader).bytes)),
+                let size = ap length (reads.bytes (before.copied.gives.same_tells ∙ reader_told)).bytes in
+                omega (arith, joined reader_told, size, length-append piece (read.rest c.read_retrying.new.reader).bytes)),
             narrows-both (Retried g.W.Write.refuses) c.args.writer.now c.loop-piece.writer c.write_all.new.writer given (length piece) narrows
-            (rw (c.deref.ensures.value, filled) at writes.narrows),
+                (rw (c.deref.ensures.value, filled) at writes.narrows),
           );
       writer_faults = omega (arith, before.writer_faults, writes.no_fewer_faults);
       pieces = λ reader_told. omega (arith, before.pieces reader_told, reads.moves (before.copied.gives.same_tells ∙ reader_told), c.if-count-eq0.false);
