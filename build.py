@@ -12,6 +12,9 @@ of its own, with the libraries below it beside it. Exit status 3 where a crate i
 The program is compiled for the level of the processors here, x86-64-v3 where they have all of it and x86-64-v2 elsewhere, or for the
 one that SAZH_CPU names, as for a program that is carried to another machine. The proofs are the same: for another level the program alone is
 built anew. Exit status 2 where SAZH_CPU names no level, or one that the processors here lack.
+
+`sazh` is then linked once more, with the C library inside, where the machine has that as a static library: such a file runs on
+any Linux, and takes half a MiB less of memory. Elsewhere the program stays as the kit linked it, and a line says so.
 """
 import hashlib
 import os
@@ -205,6 +208,25 @@ def build(uses, cpu, done):
             run.close()
 
 
+def link_alone(program):
+    """Links a program that was built with the C library inside it, from the object that the kit made. Says whether that can be done here."""
+    kit = os.path.dirname(os.path.dirname(os.path.realpath(shutil.which("rt"))))
+    libraries = [f"{kit}/c/libos_c.a", f"{kit}/c/liblibc_c.a"]
+    linker = ["cc", f"-B{kit}/toolchain/bin", "-fuse-ld=lld", "-static-pie", "-s", "-Wl,--gc-sections"]
+    alone = f"{program}.alone"
+    try:
+        made = subprocess.run([*linker, "-o", alone, f"{program}.o", *libraries], stdin=subprocess.DEVNULL, capture_output=True)
+        # (a run of it, for the case that it links here and doesn't start)
+        if made.returncode == 0 and subprocess.run([alone, *WORDS], stdin=subprocess.DEVNULL, capture_output=True).returncode == 0:
+            os.replace(alone, program)
+            return True
+    except OSError:
+        pass
+    if os.path.exists(alone):
+        os.remove(alone)
+    return False
+
+
 def main():
     cpu = level()
     if PROGRAM == "--level":
@@ -223,6 +245,8 @@ def main():
         return
     # (where the sources are those of the last run, its libraries stand as they were proved: nothing of them hangs on the level)
     build(uses, cpu, below(PROGRAM, uses) if same else ())
+    if PROGRAM == "sazh" and not link_alone(PRODUCT):
+        print(f"{PROGRAM}: it needs this machine's C library, since `cc` finds no static one here", file=sys.stderr)
     with open(STAMP, "w", encoding="utf-8") as file:
         file.write(f"{digest} {cpu}\n")
 
