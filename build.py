@@ -13,8 +13,8 @@ The program is compiled for the level of the processors here, x86-64-v3 where th
 one that SAZH_CPU names, as for a program that is carried to another machine. The proofs are the same: for another level the program alone is
 built anew. Exit status 2 where SAZH_CPU names no level, or one that the processors here lack.
 
-`sazh` is then linked once more, with the C library inside, where the machine has that as a static library: such a file runs on
-any Linux, and takes half a MiB less of memory. Elsewhere the program stays as the kit linked it, and a line says so.
+`sazh` is then linked once more, with the C library inside, where the machine has that as a static library: such a file needs none
+where it runs, and takes half a MiB less of memory. Elsewhere the program stays as the kit linked it, and a line says so.
 """
 import hashlib
 import os
