@@ -73,11 +73,11 @@ end_passes true = refl
 end_passes false = refl
 
 -- of a binary text it has what comes after what is held
-pub binary_left : (failed : Bool) (bytes : List ℕ) (given filled taken : ℕ) (stage : Stage) (rest : Stretch) → failed ≡ false →
+pub binary_left : (failed : Bool) (held : List ℕ) (taken : ℕ) (stage : Stage) (rest : Stretch) → failed ≡ false →
     (is_start stage ≡ true → taken ≡ 0) → has_lines stage ≡ false → 0 < taken →
-    Delivers (shown_ahead failed bytes given filled) (rest_ahead failed bytes given filled stage rest) rest
+    Delivers (shown_ahead failed held) (rest_ahead failed held stage rest) rest
 unfolding rest_ahead shown_ahead
-binary_left failed bytes given filled taken stage rest good none plain some =
+binary_left failed held taken stage rest good none plain some =
     found_binary stage (λ start. absurd (omega (arith, none start, some))) plain
     (λ binary. rw (good, binary) (record { bytes = refl; end = end_passes rest.ends_well }))
 

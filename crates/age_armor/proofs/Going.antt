@@ -110,7 +110,7 @@ module _ {R : Type 0} {buf : buffered.Ghosts R} {read : Ghosts R} where
       (b.place < 2 ^ 63 → (place : ℕ) → r ≡ sought (End d) place b.place) → r ≡ answer →
       WhereSteady a (sought (End e) a.place (length (armored_content a).bytes) ≡ answer)
   found-end a b d e r answer came end same exact is told steady =
-      subst (λ n. sought (End e) a.place n ≡ answer) (end told steady).1 (from-end d e b.place r answer same (exact (b.fits (came.same.tells ∙ told))) is a.place)
+      subst (λ n. sought (End e) a.place n ≡ answer) (end told steady).1 (from-end d e b.place r answer same (exact (b.sound.fits (came.same.tells ∙ told))) is a.place)
 
   -- the walk refused
   pub walk-goes : {A B : Type 0} {x : A} (below : Error → Type 0) (a b c : ArmoredReader R buf read) (e answer : Error) →

@@ -12,7 +12,7 @@ use Rattle.age_io.proofs.Keeping.{same-later, keeps-done, keeps-later, keeps-mor
 use Rattle.age_io.proofs.Retrying.{tried-patient, tried-narrows}
 use Rattle.age_io.specs.declared.bufread.BufRead as buffered
 use Rattle.age_armor.specs.declared.reader.ArmoredReader.{ArmoredReader}
-use Rattle.age_armor.specs.Reader.{CountsLine, origin_of, armored_reader, armored_rest, refuses_of, shown_of, Learns, source_of, text_outcome_of}
+use Rattle.age_armor.specs.Reader.{CountsLine, armored_content, origin_of, armored_reader, armored_rest, refuses_of, shown_of, Learns, outcome_of, source_of, text_outcome_of}
 use Rattle.age_armor.specs.declared.counted.Counted.{Counted}
 use Rattle.age_armor.specs.Refusing.{IsOwnRefusal}
 use Rattle.age_v1.proofs.DeliveredArmors.{content_of}
@@ -28,6 +28,7 @@ use Rattle.age_armor.specs.Ending.{KeepsEnding}
 use Rattle.age_armor.specs.Marks.{LearnsMore}
 use Rattle.age_armor.specs.Stages.{is_start, has_lines}
 use Rattle.age_armor.specs.Steps.{WhereSteady}
+use Rattle.age_armor.specs.Windows.{held_in}
 use Rattle.age_armor.specs.PrivateSteps.{WhereTold, KeepsText}
 use Rattle.age_armor.proofs.Forms.{form_kept}
 use Rattle.age_armor.proofs.Pacing.{learns_later, learns_none}
@@ -192,19 +193,25 @@ module _ {R : Type 0} {buf : buffered.Ghosts R} {read : Ghosts R} where
     unspent = tt;
   }
 
-  -- ---- what it holds and shows
+  -- ---- where it stands in its text, what it holds and what it shows
 
-  pub all_held : (r : ArmoredReader R buf read) → r.filled ≤ length r.bytes
-  all_held r = omega (arith, r.within, r.room)
+  pub stands_inside : (r : ArmoredReader R buf read) → WhereSteady r (r.place ≤ length (armored_content r).bytes)
+  stands_inside r told steady = (r.sound.text told steady).inside
 
-  pub held_shown : (r : ArmoredReader R buf read) → r.failed ≡ false → length (shown_of r) ≡ r.filled - r.given
-  held_shown r good = length_held r.failed r.bytes r.given r.filled (all_held r) good
+  pub follows_text : (r : ArmoredReader R buf read) → WhereSteady r ((armored_rest r ≡ nothing → ⊥) → armored_rest r ≡ from_place r.place (armored_content r))
+  follows_text r told steady some = ((r.sound.text told steady).follows some).rest
+
+  pub ends_as_text : (r : ArmoredReader R buf read) → WhereSteady r ((armored_rest r ≡ nothing → ⊥) → (outcome_of r).ending ≡ (text_outcome_of r).ending)
+  ends_as_text r told steady some = ((r.sound.text told steady).follows some).ending
+
+  pub held_shown : (r : ArmoredReader R buf read) → r.failed ≡ false → length (shown_of r) ≡ length (held_in r.window)
+  held_shown r good = length_held r.failed (held_in r.window) good
 
   pub reached : (r : ArmoredReader R buf read) → IsTrue (read.tells r.source.inner) → r.failed ≡ false → r.place + length (shown_of r) ≤ r.marks.furthest
-  reached r told good = omega (arith, (r.paced told good).within, held_shown r good)
+  reached r told good = omega (arith, (r.sound.paced told good).within, held_shown r good)
 
   pub gone : (r : ArmoredReader R buf read) → r.failed ≡ true → armored_rest r ≡ nothing
-  gone r fails = rest_gone r.failed r.bytes r.given r.filled r.stage (read.rest r.source.inner) fails
+  gone r fails = rest_gone r.failed (held_in r.window) r.stage (read.rest r.source.inner) fails
 
 -- ---- a reader that fails for good
 
@@ -278,7 +285,7 @@ module _ {R : Type 0} {buf : buffered.Ghosts R} {read : Ghosts R} where
   pub form-found : (a b : ArmoredReader R buf read) → SameReader armored_reader a b → KeepsText a b → is_start b.stage ≡ false →
       IsTrue (read.tells a.source.inner) → IsTrue (read.steady a.source.inner) → has_lines b.stage ≡ begins_armor (source_of a).bytes
   form-found a b same text begun told steady =
-      (form_kept (has_lines b.stage) (source_of b) (source_of a) (b.form (same.tells ∙ told) (same.steady ∙ steady) begun) (sym (text.same_text told))).same
+      (form_kept (has_lines b.stage) (source_of b) (source_of a) ((b.sound.text (same.tells ∙ told) (same.steady ∙ steady)).form begun) (sym (text.same_text told))).same
 
   -- ---- a read
 

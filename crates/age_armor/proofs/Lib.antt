@@ -1,6 +1,7 @@
 pub mod Encoded
 pub mod Ending
 pub mod Sent
+pub mod Windows
 pub mod Ahead
 pub mod AheadLines
 pub mod Whole

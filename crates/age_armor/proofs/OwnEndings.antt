@@ -73,12 +73,12 @@ own_delivered text w = each_delivered IsOwn w (own_end w Clean tt) (own_end w (R
 
 -- ---- a text ends so where nothing else is left of it
 
-pub end_left : (content rest : Stretch) (place origin : ℕ) (bytes : List ℕ) (given filled : ℕ) (stage : Stage) (e : Error) → StandsIn content place rest →
+pub end_left : (content rest : Stretch) (place origin : ℕ) (held : List ℕ) (stage : Stage) (e : Error) → StandsIn content place rest →
     (is_start stage ≡ true → place ≡ origin) →
-    (is_start stage ≡ false → (outcome_ahead bytes given filled stage rest).ending ≡ (text_outcome content origin).ending) →
+    (is_start stage ≡ false → (outcome_ahead held stage rest).ending ≡ (text_outcome content origin).ending) →
     ahead stage rest ≡ ends_in (Refused e) → (text_outcome content origin).ending ≡ Refused e
 unfolding outcome_ahead text_delivers
-end_left content rest place origin bytes given filled Start e stands at begun end = elim stands.reaches [
+end_left content rest place origin held Start e stands at begun end = elim stands.reaches [
   | inl is ↦
       subst (λ n. (text_outcome content n).ending ≡ Refused e) (at refl)
       (subst (λ s. (text_delivers s.bytes s.ends_well).ending ≡ Refused e) is (ap (λ o. o.ending) end))
@@ -86,9 +86,9 @@ end_left content rest place origin bytes given filled Start e stands at begun en
       let clash : InnerFault ≡ Refused e = ap (λ o. o.ending) (subst (λ s. text_delivers s.bytes s.ends_well ≡ ends_in (Refused e)) gone end) in
       absurd (cc clash)
 ]
-end_left content rest place origin bytes given filled Binary e stands at begun end = sym (begun refl) ∙ ap (λ o. o.ending) end
-end_left content rest place origin bytes given filled (Lines s) e stands at begun end = sym (begun refl) ∙ ap (λ o. o.ending) end
-end_left content rest place origin bytes given filled Ended e stands at begun end = sym (begun refl) ∙ ap (λ o. o.ending) end
+end_left content rest place origin held Binary e stands at begun end = sym (begun refl) ∙ ap (λ o. o.ending) end
+end_left content rest place origin held (Lines s) e stands at begun end = sym (begun refl) ∙ ap (λ o. o.ending) end
+end_left content rest place origin held Ended e stands at begun end = sym (begun refl) ∙ ap (λ o. o.ending) end
 
 -- ---- under another name
 

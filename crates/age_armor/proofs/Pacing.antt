@@ -3,7 +3,6 @@ use Rattle.std.proofs.Common.{◌≡◌, ◌∙◌, inl, inr, ℕ, ◌+◌, ◌*
 use Rattle.std.proofs.lemmas.Bool.{true≢false, cases_Bool, cases_lt}
 use Rattle.age_io.specs.Stretch.{Stretch}
 use Rattle.age_io.specs.Reading.{Delivers}
-use Rattle.age_io.specs.BehindLemmas.{held-empty}
 use Rattle.age_armor.specs.declared.stages.Stage.{Stage}
 use Rattle.age_armor.specs.declared.stages.Stage.TheVariants.{Start, Binary, Lines, Ended}
 use Rattle.age_armor.specs.Stages.{ahead, has_lines, is_start}
@@ -12,7 +11,6 @@ use Rattle.age_armor.specs.Ahead.{rest_ahead, shown_ahead}
 use Rattle.age_armor.specs.declared.marks.Marks.{Marks}
 use Rattle.age_armor.specs.Marks.{LearnsMore, is_known}
 use Rattle.age_armor.specs.PrivateMarks.{KnowsEndBefore}
-use Rattle.age_armor.proofs.Ahead.{length_held}
 use Rattle.age_v1.specs.DeliveredArmor.{raw_lines}
 use Rattle.age_armor.specs.PrivateCounting.{TakesLines, IsCounted, one_line_more}
 use Rattle.age_armor.proofs.Staging.{none_after_short}
@@ -27,11 +25,11 @@ opens_next (Lines true) rest front more bytes some =
 opens_next Ended rest front more bytes some = absurd (omega (arith, some, ap length bytes, length-append front more))
 
 -- where bytes were found and none were held, neither a short line nor the end came before
-pub open_stage : (failed : Bool) (bytes : List ℕ) (given filled : ℕ) (stage : Stage) (rest new : Stretch) (front : List ℕ) → failed ≡ false → filled ≤ length bytes →
-    filled ≤ given → Delivers front (rest_ahead failed bytes given filled stage rest) new → 0 < length front → is_open stage ≡ true
+pub open_stage : (failed : Bool) (held : List ℕ) (stage : Stage) (rest new : Stretch) (front : List ℕ) → failed ≡ false → held ≡ [] →
+    Delivers front (rest_ahead failed held stage rest) new → 0 < length front → is_open stage ≡ true
 unfolding rest_ahead
-open_stage failed bytes given filled stage rest new front good full empty delivers some =
-    opens_next stage rest front new.bytes ((rw (good, held-empty bytes given filled full empty) at delivers).bytes) some
+open_stage failed held stage rest new front good none delivers some =
+    opens_next stage rest front new.bytes ((rw (good, none) at delivers).bytes) some
 
 -- what a read takes on the way to the target is counted
 pub counted_on : (old new : Stage) (start counted target place held lines next still more : ℕ) → TakesLines old new place held lines next still more →
@@ -99,11 +97,11 @@ some_length None known = absurd (true≢false (sym known))
 some_length (Some n) known = (n, refl)
 
 -- a reader that holds bytes has begun, and hasn't failed
-pub shown_begun : (failed : Bool) (bytes : List ℕ) (given filled : ℕ) (stage : Stage) → given ≤ filled → filled ≤ length bytes →
-    (is_start stage ≡ true → given ≡ filled) → 0 < length (shown_ahead failed bytes given filled) → (failed ≡ false) × (is_start stage ≡ false)
+pub shown_begun : (failed : Bool) (held : List ℕ) (stage : Stage) → (failed ≡ false → is_start stage ≡ true → held ≡ []) →
+    0 < length (shown_ahead failed held) → (failed ≡ false) × (is_start stage ≡ false)
 unfolding shown_ahead
-shown_begun true bytes given filled stage order all fresh some = absurd (omega (arith, some))
-shown_begun false bytes given filled stage order all fresh some = elim (cases_Bool (is_start stage)) [
-  | inl start ↦ absurd (omega (arith, some, fresh start, length_held false bytes given filled all refl))
+shown_begun true held stage fresh some = absurd (omega (arith, some))
+shown_begun false held stage fresh some = elim (cases_Bool (is_start stage)) [
+  | inl start ↦ absurd (omega (arith, some, ap length (fresh refl start)))
   | inr begun ↦ (refl, begun)
 ]

@@ -4,7 +4,6 @@ use Rattle.std.proofs.lemmas.Bool.{true≢false}
 use Rattle.std.proofs.lemmas.List.{drop-drop, nil_from_length}
 use Rattle.age_io.specs.Stretch.{Stretch, nothing, from_place, stretch-ext, IsCleanEnd}
 use Rattle.age_io.specs.Reading.{Delivers, StandsIn}
-use Rattle.age_io.specs.BehindLemmas.{held-empty}
 use Rattle.age_armor.specs.declared.marks.Marks.{Marks}
 use Rattle.age_armor.specs.declared.stages.Stage.{Stage}
 use Rattle.age_armor.specs.declared.stages.Stage.TheVariants.{Start, Binary, Lines, Ended}
@@ -46,17 +45,16 @@ along_text content origin taken = ap (λ bytes. stretch bytes content.ends_well)
 
 -- ---- a line that was read can be read again
 
-module _ (content rest : Stretch) (at origin taken : ℕ) (place : ℕ) (bytes : List ℕ) (given filled : ℕ) where
-  pub resumes_line : (stage : Stage) (after : Outcome) (front : List ℕ) → stage ≡ Lines false → origin + taken ≡ at → StandsIn content at rest → filled ≤ length bytes → filled ≤ given →
+module _ (content rest : Stretch) (at origin taken : ℕ) (place : ℕ) (held : List ℕ) where
+  pub resumes_line : (stage : Stage) (after : Outcome) (front : List ℕ) → stage ≡ Lines false → origin + taken ≡ at → StandsIn content at rest → held ≡ [] →
       Advances (ahead stage rest) front after → 0 < length front → place ≤ length (content_of content origin).bytes →
-      ((rest_ahead false bytes given filled stage rest ≡ nothing → ⊥) → rest_ahead false bytes given filled stage rest ≡ from_place place (content_of content origin)) →
-      ((rest_ahead false bytes given filled stage rest ≡ nothing → ⊥) →
-      (outcome_ahead bytes given filled stage rest).ending ≡ (text_delivers (drop origin content.bytes) content.ends_well).ending) →
+      ((rest_ahead false held stage rest ≡ nothing → ⊥) → rest_ahead false held stage rest ≡ from_place place (content_of content origin)) →
+      ((rest_ahead false held stage rest ≡ nothing → ⊥) →
+      (outcome_ahead held stage rest).ending ≡ (text_delivers (drop origin content.bytes) content.ends_well).ending) →
       FindsForm (has_lines stage) (from_place origin content).bytes →
       Resumes (from_place origin content) (Lines false) place taken
   unfolding rest_ahead outcome_ahead
-  resumes_line stage after front lines behind stands full empty advances some within follows ends form =
-      let none = held-empty bytes given filled full empty in
+  resumes_line stage after front lines behind stands none advances some within follows ends form =
       let bytes_ahead : (ahead (Lines false) rest).bytes ≡ front ++ after.bytes = ap (λ o. o.bytes) (subst (λ s. ahead s rest ≡ outcome_after front after) lines advances.same) in
       let left : (stretch_of (ahead (Lines false) rest) ≡ nothing → ⊥) = λ gone.
       let no_bytes : [] ≡ front ++ after.bytes = ap (λ s. s.bytes) (sym gone) ∙ bytes_ahead in
@@ -132,24 +130,25 @@ not_binary is = absurd (true≢false (sym (ap has_lines is)))
 
 -- ---- a new reader
 
-pub starts_at : (content rest : Stretch) (place : ℕ) (bytes : List ℕ) → StandsIn content place rest → (rest_ahead false bytes 0 0 Start rest ≡ nothing → ⊥) →
-    rest ≡ from_place place content
+pub starts_at : (content rest : Stretch) (place : ℕ) (held : List ℕ) → held ≡ [] → StandsIn content place rest →
+    (rest_ahead false held Start rest ≡ nothing → ⊥) → rest ≡ from_place place content
 unfolding rest_ahead
-starts_at content rest place bytes stands some =
-    stands_follows content rest place stands (λ gone. some (ap (λ s. stretch_of (text_delivers s.bytes s.ends_well)) gone ∙ nothing_delivered))
+starts_at content rest place held none stands some =
+    stands_follows content rest place stands (λ gone. some (rw none (ap (λ s. stretch_of (text_delivers s.bytes s.ends_well)) gone ∙ nothing_delivered)))
 
 -- ---- a reader that is taken to a mark
 
-pub resumed_rest : (content rest : Stretch) (origin place taken : ℕ) (stage : Stage) (bytes : List ℕ) → Resumes (from_place origin content) stage place taken →
-    rest ≡ from_place (origin + taken) content → rest_ahead false bytes 0 0 stage rest ≡ from_place place (content_of content origin)
+pub resumed_rest : (content rest : Stretch) (origin place taken : ℕ) (stage : Stage) (held : List ℕ) → held ≡ [] →
+    Resumes (from_place origin content) stage place taken → rest ≡ from_place (origin + taken) content →
+    rest_ahead false held stage rest ≡ from_place place (content_of content origin)
 unfolding rest_ahead
-resumed_rest content rest origin place taken stage bytes resumes here =
-    ap (λ s. stretch_of (ahead stage s)) (here ∙ along_text content origin taken) ∙ resumes.rest
+resumed_rest content rest origin place taken stage held none resumes here =
+    rw none (ap (λ s. stretch_of (ahead stage s)) (here ∙ along_text content origin taken) ∙ resumes.rest)
 
-pub resumed_ending : (content rest : Stretch) (origin place taken : ℕ) (stage : Stage) (bytes : List ℕ) → Resumes (from_place origin content) stage place taken →
-    rest ≡ from_place (origin + taken) content → (outcome_ahead bytes 0 0 stage rest).ending ≡ (text_delivers (drop origin content.bytes) content.ends_well).ending
+pub resumed_ending : (content rest : Stretch) (origin place taken : ℕ) (stage : Stage) (held : List ℕ) → Resumes (from_place origin content) stage place taken →
+    rest ≡ from_place (origin + taken) content → (outcome_ahead held stage rest).ending ≡ (text_delivers (drop origin content.bytes) content.ends_well).ending
 unfolding outcome_ahead
-resumed_ending content rest origin place taken stage bytes resumes here =
+resumed_ending content rest origin place taken stage held resumes here =
     ap (λ s. (ahead stage s).ending) (here ∙ along_text content origin taken) ∙ resumes.ending
 
 -- ---- a binary text
@@ -201,9 +200,10 @@ armored_stage (Lines s) text begun form other = sym form.same
 armored_stage Ended text begun form other = sym form.same
 
 -- at its clean end nothing is left of it
-pub clean_binary : (bytes : List ℕ) (stage : Stage) (rest : Stretch) → stage ≡ Binary → IsCleanEnd rest → IsCleanEnd (rest_ahead false bytes 0 0 stage rest)
+pub clean_binary : (held : List ℕ) (stage : Stage) (rest : Stretch) → held ≡ [] → stage ≡ Binary → IsCleanEnd rest →
+    IsCleanEnd (rest_ahead false held stage rest)
 unfolding rest_ahead
-clean_binary bytes stage rest binary clean = rw binary (record {
+clean_binary held stage rest none binary clean = rw (binary, none) (record {
   bytes = clean.bytes;
   ends_well = ends_clean rest.ends_well clean.ends_well;
 })

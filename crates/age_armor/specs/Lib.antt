@@ -4,6 +4,7 @@ pub mod Showing
 pub mod Refusing
 pub mod Stages
 pub mod Marks
+pub mod Windows
 pub mod Ahead
 pub mod Ending
 pub mod Seeking
@@ -12,6 +13,7 @@ pub mod Opening
 pub mod Steps
 pub mod Seeks
 pub mod ReaderLemmas
+pub mod PlaceLemmas
 pub mod WritingLemmas
 pub mod WriterCalls
 pub mod PrivateRefusing
@@ -21,4 +23,5 @@ pub mod PrivateSteps
 pub mod PrivateShowing
 pub mod PrivateStages
 pub mod PrivateMarks
+pub mod PrivateReader
 pub mod PrivateSeeking

@@ -1,5 +1,5 @@
 -- What the private steps of a reader of armor say of it, before and after.
-use Rattle.std.specs.Prelude.{Bool, Err, IfErr, IfOk, IsTrue, Ok, OnErr, OnOk, Result, [], false, length, true, ℕ, ℤ, ⊤, ◌*◌, ◌+◌, ◌-◌, ◌<◌, ◌≡◌, ◌≢◌, ◌≤◌}
+use Rattle.std.specs.Prelude.{Bool, Err, IfErr, IfOk, IsTrue, Ok, OnErr, OnOk, Result, [], false, length, true, ℕ, ℤ, ⊤, ◌*◌, ◌+◌, ◌<◌, ◌≡◌, ◌≢◌, ◌≤◌}
 use Rattle.age_error.specs.declared.io.Error.{Error}
 use Rattle.age_io.specs.Stretch.{IsCleanEnd, from_place}
 use Rattle.age_armor.specs.declared.reader.ArmoredReader.{ArmoredReader}
@@ -8,6 +8,7 @@ use Rattle.age_armor.specs.PrivateCounting.{TakesLines}
 use Rattle.age_armor.specs.Ending.{KeepsEnding}
 use Rattle.age_armor.specs.Marks.{LearnsMore}
 use Rattle.age_armor.specs.Stages.{NamesEnding, is_start}
+use Rattle.age_armor.specs.Windows.{held_in}
 use Rattle.age_armor.specs.Reader.{CountsLine, armored_content, armored_reader, armored_rest, furthest_of, has_armor, has_failed, inner_of, knows_end, lines_of, marks_of, notes_all, outcome_of, place_of, refuses_of, shown_of, source_of, text_outcome_of}
 use Rattle.age_error.specs.declared.io.Error.TheVariants.{OutOfMemory}
 use Rattle.age_error.specs.declared.io.SeekFrom.{SeekFrom}
@@ -46,7 +47,7 @@ module _ {R : Type 0} {buf : buffered.Ghosts R} {read : readers.Ghosts R} where
   -- after a success the lines that were taken are counted
   abbrev pub CountsTaken : {A : Type 0} → ArmoredReader R buf read → ArmoredReader R buf read → Result A Error → Type 0
   CountsTaken old new result = WhereTold old (OnOk result (TakesLines old.stage new.stage
-      (place_of old) (old.filled - old.given) (lines_of old) (place_of new) (new.filled - new.given) (lines_of new)))
+      (place_of old) (length (held_in old.window)) (lines_of old) (place_of new) (length (held_in new.window)) (lines_of new)))
 
   -- It holds the next bytes, and what is left stays. Nothing is held at a clean end alone, of which it knows then. What is held already stays,
   -- and nothing is read for it.
@@ -54,8 +55,8 @@ module _ {R : Type 0} {buf : buffered.Ghosts R} {read : readers.Ghosts R} where
     pub place : place_of new ≡ place_of old
     pub rest : WhereTold old (OnOk result (armored_rest new ≡ armored_rest old))
     pub begun : OnOk result (is_start new.stage ≡ false)
-    pub end : WhereTold old (OnOk result (new.given ≡ new.filled → IsCleanEnd (armored_rest old)))
-    pub knows : OnOk result (new.given ≡ new.filled → IsTrue (knows_end new))
+    pub end : WhereTold old (OnOk result (held_in new.window ≡ [] → IsCleanEnd (armored_rest old)))
+    pub knows : OnOk result (held_in new.window ≡ [] → IsTrue (knows_end new))
     pub same : 0 < length (shown_of old) → (result ≡ Ok tt) × (shown_of new ≡ shown_of old)
     pub line : IsTrue (has_armor new) → OnOk result (CountsLine old new)
 
@@ -72,7 +73,7 @@ module _ {R : Type 0} {buf : buffered.Ghosts R} {read : readers.Ghosts R} where
   pub record StaysBinary (old new : ArmoredReader R buf read) : Type 0 where
     pub stage : new.stage ≡ Binary
     pub shown : shown_of old ≡ []
-    pub holds : (new.given ≡ old.given) × (new.filled ≡ old.filled)
+    pub holds : held_in new.window ≡ held_in old.window
     pub lines : lines_of new ≡ lines_of old
 
   -- a reader that hasn't failed comes to the text's own end

@@ -15,6 +15,7 @@ use Rattle.age_armor.specs.Marks.{is_known, LearnsMore}
 use Rattle.age_armor.specs.Ending.{KeepsEnding}
 use Rattle.age_armor.specs.Refusing.{IsOwnRefusal, OrEnd}
 use Rattle.age_armor.specs.Seeking.{text_outcome}
+use Rattle.age_armor.specs.Windows.{held_in}
 use Rattle.age_armor.specs.Ahead.{outcome_ahead, rest_ahead, shown_ahead}
 use Rattle.age_v1.proofs.DeliveredArmors.{content_of}
 
@@ -33,7 +34,7 @@ module _ {R : Type 0} {buf : buffered.Ghosts R} {read : readers.Ghosts R} where
 
   -- what the text still delivers, by the definition of armor, and how it ends
   abbrev pub outcome_of : ArmoredReader R buf read → Outcome
-  outcome_of r = outcome_ahead r.bytes r.given r.filled r.stage (read.rest r.source.inner)
+  outcome_of r = outcome_ahead (held_in r.window) r.stage (read.rest r.source.inner)
 
   -- how many bytes of the text were taken from the reader that gives it
   abbrev pub taken_of : ArmoredReader R buf read → ℕ
@@ -83,7 +84,7 @@ module _ {R : Type 0} {buf : buffered.Ghosts R} {read : readers.Ghosts R} where
 
   -- what its reads can still deliver
   abbrev pub armored_rest : ArmoredReader R buf read → Stretch
-  armored_rest r = rest_ahead r.failed r.bytes r.given r.filled r.stage (read.rest r.source.inner)
+  armored_rest r = rest_ahead r.failed (held_in r.window) r.stage (read.rest r.source.inner)
 
   -- why its calls refuse: with `Failed` once it has failed, with what reading the text refuses with of itself, which is how the text ends, or as
   -- the inner reader does, whose interruptions are tried again
@@ -94,7 +95,7 @@ module _ {R : Type 0} {buf : buffered.Ghosts R} {read : readers.Ghosts R} where
 
   -- what it shows: the rest of the line that it holds
   abbrev pub shown_of : ArmoredReader R buf read → List ℕ
-  shown_of r = shown_ahead r.failed r.bytes r.given r.filled
+  shown_of r = shown_ahead r.failed (held_in r.window)
 
   -- What a read or a look of armor counts where it succeeds: where bytes were held no line, and else one, where it finds bytes.
   pub record CountsLine (old new : ArmoredReader R buf read) : Type 0 where

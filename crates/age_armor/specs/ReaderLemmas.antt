@@ -1,12 +1,10 @@
 -- The laws of a reader of armor, over its parts.
-use Rattle.std.specs.Prelude.{◌≡◌, ℕ, ◌<◌, Bool, true, false, IsTrue, List, [], ◌∷◌, length, take, drop, nat_lt, nat_eq, ◌||◌, if◌then◌else◌, refl}
-use Rattle.std.proofs.Common.{arith, sym, ◌∙◌, inl, inr, length-take}
+use Rattle.std.specs.Prelude.{◌≡◌, ℕ, ◌<◌, Bool, true, false, IsTrue, List, [], ◌∷◌, length, drop, nat_lt, nat_eq, ◌||◌, if◌then◌else◌, refl}
+use Rattle.std.proofs.Common.{arith, sym, ◌∙◌, inl, inr}
 use Rattle.std.proofs.lemmas.Bool.{true≢false, cases_Bool}
-use Rattle.std.proofs.lemmas.List.{drop_all}
 use Rattle.std.specs.List.{concat, starts_with}
 use Rattle.age_io.specs.Stretch.{Stretch, nothing}
 use Rattle.age_io.specs.Reading.{most_faults}
-use Rattle.age_io.specs.Buffering.{held}
 use Rattle.age_v1.specs.Armor.{begin_marker}
 use Rattle.age_v1.specs.ArmorLineVerdict.{LineVerdict, Refuses, Ends, Holds, verdict, is_short, line_columns, last_is}
 use Rattle.age_armor.specs.declared.stages.Stage.{Stage}
@@ -68,20 +66,16 @@ pub nothing_delivered : stretch_of (text_delivers [] false) ≡ nothing
 unfolding text_delivers
 nothing_delivered = refl
 
-none_held : (bytes : List ℕ) (given filled : ℕ) → given ≡ filled → held bytes given filled ≡ []
-none_held bytes given filled same = drop_all given (take filled bytes) (omega (arith, same, length-take filled bytes))
-
 begun_not : {X : Type 0} (faults : ℕ) → faults < most_faults → faults ≡ most_faults → X
 begun_not faults below is = absurd (omega (arith, below, is))
 
-pub spent_ahead : (failed : Bool) (bytes : List ℕ) (given filled : ℕ) (stage : Stage) (rest : Stretch) (faults : ℕ) →
-    (is_start stage ≡ true → given ≡ filled) → (failed ≡ false → is_start stage ≡ false → faults < most_faults) →
-    faults ≡ most_faults → rest ≡ nothing → rest_ahead failed bytes given filled stage rest ≡ nothing
+pub spent_ahead : (failed : Bool) (held : List ℕ) (stage : Stage) (rest : Stretch) (faults : ℕ) →
+    (failed ≡ false → is_start stage ≡ true → held ≡ []) → (failed ≡ false → is_start stage ≡ false → faults < most_faults) →
+    faults ≡ most_faults → rest ≡ nothing → rest_ahead failed held stage rest ≡ nothing
 unfolding rest_ahead
-spent_ahead true bytes given filled stage rest faults fresh unspent is gone = refl
-spent_ahead false bytes given filled Start rest faults fresh unspent is gone =
-    let none : held bytes given filled ≡ [] = none_held bytes given filled (fresh refl) in
-    rw (none, gone) nothing_delivered
-spent_ahead false bytes given filled Binary rest faults fresh unspent is gone = begun_not faults (unspent refl refl) is
-spent_ahead false bytes given filled (Lines s) rest faults fresh unspent is gone = begun_not faults (unspent refl refl) is
-spent_ahead false bytes given filled Ended rest faults fresh unspent is gone = begun_not faults (unspent refl refl) is
+spent_ahead true held stage rest faults fresh unspent is gone = refl
+spent_ahead false held Start rest faults fresh unspent is gone =
+    rw (fresh refl refl, gone) nothing_delivered
+spent_ahead false held Binary rest faults fresh unspent is gone = begun_not faults (unspent refl refl) is
+spent_ahead false held (Lines s) rest faults fresh unspent is gone = begun_not faults (unspent refl refl) is
+spent_ahead false held Ended rest faults fresh unspent is gone = begun_not faults (unspent refl refl) is

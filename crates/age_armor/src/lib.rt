@@ -14,6 +14,7 @@ mod seeking;
 mod sending;
 mod showing;
 mod stages;
+mod window;
 mod writer;
 mod writing;
 

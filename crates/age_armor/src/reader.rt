@@ -1,5 +1,5 @@
 //! Reading armor.
-ghost use Rattle.std.specs.Prelude.{◌≡◌, ◌≢◌, ◌+◌, ◌-◌, ◌*◌, ◌^◌, ◌≤◌, ◌<◌, true, false, IsTrue, length, take, drop, min, IfOk, IfErr, OnErr, IsOk, Ok, Err, Some, codes};
+ghost use Rattle.std.specs.Prelude.{◌≡◌, ◌≢◌, ◌+◌, ◌-◌, ◌*◌, ◌^◌, ◌≤◌, ◌<◌, true, false, IsTrue, [], length, take, drop, min, IfOk, IfErr, OnErr, IsOk, Ok, Err, Some, codes};
 ghost use Rattle.age_error.specs.declared.io.Error.TheVariants.{OutOfMemory, Failed};
 ghost use Rattle.age_io.specs.Stretch.{nothing, from_place, IsFault};
 ghost use Rattle.age_io.specs.Reading.{Reads, IsQuiet, Delivers, StandsIn, most_faults};
@@ -13,13 +13,15 @@ ghost use Rattle.age_armor.specs.Ahead.{outcome_ahead, rest_ahead};
 ghost use Rattle.age_v1.proofs.DeliveredArmors.{content_of, content_bytes, content_short, stands_by};
 ghost use Rattle.age_armor.specs.ReaderLemmas.{spent_ahead, well_inner};
 ghost use Rattle.age_armor.specs.Marks.{is_known};
-ghost use Rattle.age_armor.specs.PrivateMarks.{Knows, IsPaced};
+ghost use Rattle.age_armor.specs.PrivateReader.{IsSound};
+ghost use Rattle.age_armor.specs.Windows.{held_in};
 ghost use Rattle.age_armor.specs.Seeking.{text_outcome};
 
 use crate::counted::Counted;
 use crate::decoding::Decoder;
 use crate::marks::Marks;
 use crate::stages::{Stage, advance};
+use crate::window::Window;
 use age_error::io::Error;
 use age_io::{BufRead, BufReader, Read};
 use std::alloc::Global;
@@ -43,47 +45,12 @@ pub struct ArmoredReader<R: BufRead> {
     pub(crate) stage: Stage,
     // The text of a line, where the inner reader doesn't show it in one piece.
     line: Vec<u8>,
-    // The bytes from `given` to `filled` were read and not given yet.
-    pub(crate) bytes: [u8; 48],
-    pub(crate) given: usize,
-    pub(crate) filled: usize,
+    // What was read and not given yet.
+    pub(crate) window: Window,
     pub(crate) place: u64,
     pub(crate) failed: bool,
     pub(crate) marks: Marks,
-    ghost room: { length bytes ≡ 48 },
-    ghost order: { given ≤ filled },
-    ghost within: { filled ≤ 48 },
-    ghost fresh: { is_start stage ≡ true → given ≡ filled },
-    ghost untaken: { failed ≡ false → is_start stage ≡ true → source.taken ≡ preceding },
-    ghost form: { IsTrue (R.Read.tells source.inner) → IsTrue (R.Read.steady source.inner) → is_start stage ≡ false →
-        FindsForm (has_lines stage) (from_place (R.Read.place source.inner - source.taken + preceding) (R.Read.content source.inner)).bytes },
-    ghost unspent: { failed ≡ false → is_start stage ≡ false → R.Read.faults source.inner < most_faults },
-    ghost counted: { IsTrue (R.Read.tells source.inner) → failed ≡ false → place + (filled - given) + preceding ≤ source.taken },
-    ghost fits: { IsTrue (R.Read.tells source.inner) → place < 2 ^ 63 },
-    ghost inside: { IsTrue (R.Read.tells source.inner) → IsTrue (R.Read.steady source.inner) →
-        place ≤ length (content_of (R.Read.content source.inner) (R.Read.place source.inner - source.taken + preceding)).bytes },
-    ghost follows: { IsTrue (R.Read.tells source.inner) → IsTrue (R.Read.steady source.inner) →
-        (rest_ahead failed bytes given filled stage (R.Read.rest source.inner) ≡ nothing → ⊥) →
-        rest_ahead failed bytes given filled stage (R.Read.rest source.inner)
-        ≡ from_place place (content_of (R.Read.content source.inner) (R.Read.place source.inner - source.taken + preceding)) },
-    ghost ends: { IsTrue (R.Read.tells source.inner) → IsTrue (R.Read.steady source.inner) →
-        (rest_ahead failed bytes given filled stage (R.Read.rest source.inner) ≡ nothing → ⊥) →
-        (outcome_ahead bytes given filled stage (R.Read.rest source.inner)).ending
-        ≡ (text_outcome (R.Read.content source.inner) (R.Read.place source.inner - source.taken + preceding)).ending },
-    ghost known: { IsTrue (R.Read.tells source.inner) → Knows (R.Read.steady source.inner)
-        (from_place (R.Read.place source.inner - source.taken + preceding) (R.Read.content source.inner)) marks },
-    ghost done: { is_ended stage ≡ true → is_known marks.length ≡ true },
-    ghost here: { IsTrue (R.Read.tells source.inner) → IsTrue (R.Read.steady source.inner) → failed ≡ false → is_start stage ≡ false →
-        (rest_ahead failed bytes given filled stage (R.Read.rest source.inner)
-        ≡ from_place place (content_of (R.Read.content source.inner) (R.Read.place source.inner - source.taken + preceding)))
-        × ((outcome_ahead bytes given filled stage (R.Read.rest source.inner)).ending
-        ≡ (text_outcome (R.Read.content source.inner) (R.Read.place source.inner - source.taken + preceding)).ending) },
-    ghost paced: { IsTrue (R.Read.tells source.inner) → failed ≡ false → IsPaced stage place (filled - given) marks.furthest },
-    ghost behind: { IsTrue (R.Read.tells source.inner) → IsTrue (R.Read.steady source.inner) → preceding ≤ source.taken },
-    ghost unread: { IsTrue (R.Read.tells source.inner) → IsTrue (R.Read.steady source.inner) → is_start stage ≡ true → 0 < marks.furthest →
-        IsTrue (begins_armor (from_place (R.Read.place source.inner - source.taken + preceding) (R.Read.content source.inner)).bytes) },
-    ghost begins: { IsTrue (R.Read.tells source.inner) → R.Read.place source.inner - source.taken + preceding < 2 ^ 63 },
-    ghost lined: { IsTrue (R.Read.tells source.inner) → (stage ≡ Binary → ⊥) → marks.furthest ≤ 48 * source.lines },
+    ghost sound: { IsSound source preceding stage (held_in window) place failed marks },
 }
 
 impl<R: BufRead> Read for ArmoredReader<R> {
@@ -107,12 +74,13 @@ impl<R: BufRead> Read for ArmoredReader<R> {
 
     ghost faults_fit = { λ r. R.Read.faults_fit r.source.inner };
 
-    ghost spent = { λ r told is. spent_ahead r.failed r.bytes r.given r.filled r.stage (R.Read.rest r.source.inner)
-        (R.Read.faults r.source.inner) r.fresh r.unspent is (R.Read.spent r.source.inner told is) };
+    ghost spent = { λ r told is. spent_ahead r.failed (held_in r.window) r.stage (R.Read.rest r.source.inner)
+        (R.Read.faults r.source.inner) r.sound.fresh r.sound.unspent is (R.Read.spent r.source.inner told is) };
 
     ghost well = { λ r told well. R.Read.well r.source.inner told (well_inner (R.Read.content r.source.inner) (R.Read.place r.source.inner - r.source.taken + r.preceding) well) };
 
-    ghost stands = { λ r told steady. stands_by (armored_content r) (armored_rest r) r.place (r.inside told steady) (r.follows told steady) };
+    ghost stands = { λ r told steady. stands_by (armored_content r) (armored_rest r) r.place (r.sound.text told steady).inside
+        (λ some. ((r.sound.text told steady).follows some).rest) };
 
     ghost are_bytes = { λ r told. content_bytes (R.Read.content r.source.inner) (R.Read.place r.source.inner - r.source.taken + r.preceding)
         (R.Read.are_bytes r.source.inner told) };
@@ -120,7 +88,7 @@ impl<R: BufRead> Read for ArmoredReader<R> {
     ghost short = { λ r told. content_short (R.Read.content r.source.inner) (R.Read.place r.source.inner - r.source.taken + r.preceding)
         (R.Read.are_bytes r.source.inner told) (R.Read.short r.source.inner told) };
 
-    ghost place_fits = { λ r told. r.fits told };
+    ghost place_fits = { λ r told. r.sound.fits told };
 
     /// Puts the next bytes in front of `buf`, and answers how many they are: of armor at most the rest of one line.
     ///
@@ -189,9 +157,7 @@ impl<R: BufRead> ArmoredReader<R> {
             decoder: Decoder::new(),
             stage: Stage::Start,
             line: Vec::new(alloc),
-            bytes: [0; 48],
-            given: 0,
-            filled: 0,
+            window: Window::new(),
             place: 0,
             failed: false,
             marks: Marks::new(alloc),
@@ -255,10 +221,10 @@ impl<R: BufRead> ArmoredReader<R> {
 
     // Whether the text is binary and nothing of it is held.
     fn is_passing(&self) -> bool
-        ensures { IsTrue result → (self.now.stage ≡ Binary) × (self.now.given ≡ self.now.filled) }
+        ensures { IsTrue result → (self.now.stage ≡ Binary) × (held_in self.now.window ≡ []) }
     {
         match self.stage {
-            Stage::Binary => self.given == self.filled,
+            Stage::Binary => self.window.is_empty(),
             _ => false,
         }
     }
@@ -269,7 +235,7 @@ impl<R: BufRead> ArmoredReader<R> {
         requires good { self.old.failed ≡ false }
         requires some { 0 < length buf.old }
         requires binary { self.old.stage ≡ Binary }
-        requires given { self.old.given ≡ self.old.filled }
+        requires given { held_in self.old.window ≡ [] }
         ensures reads { let reader = ⟦<ArmoredReader<R> as Read>⟧ in
             Reads reader.tells reader.steady reader.content reader.place reader.rest reader.faults reader.refuses self.old self.new buf.new result }
         ensures good { FailsForGood (has_failed self.old) (has_failed self.new) result }
@@ -295,12 +261,16 @@ impl<R: BufRead> ArmoredReader<R> {
 
     // Whether a byte is held, or the end was found.
     fn is_ready(&self) -> bool
+        requires { self.now.failed ≡ false }
         ensures begun { IsTrue result → is_start self.now.stage ≡ false }
-        ensures end { IsTrue result → self.now.given ≡ self.now.filled → is_ended self.now.stage ≡ true }
-        ensures none { result ≡ false → self.now.given ≡ self.now.filled }
+        ensures end { IsTrue result → held_in self.now.window ≡ [] → is_ended self.now.stage ≡ true }
+        ensures none { result ≡ false → held_in self.now.window ≡ [] }
         ensures more { result ≡ false → is_ended self.now.stage ≡ false }
     {
-        self.given < self.filled || matches!(self.stage, Stage::Ended)
+        if self.window.is_empty() {
+            return matches!(self.stage, Stage::Ended);
+        }
+        true
     }
 
     // Reads on where nothing is held. Then nothing is held at a clean end alone.
@@ -321,22 +291,18 @@ impl<R: BufRead> ArmoredReader<R> {
         if self.is_ready() {
             return Ok(());
         }
-        // Read apart: a refusal leaves the reader's bytes as they are.
-        let mut bytes = self.bytes;
         let taken = self.source.taken.saturating_sub(self.preceding);
         match advance(
             &mut self.source,
             &self.decoder,
             self.stage,
             &mut self.line,
-            &mut bytes,
+            &mut self.window.bytes,
         ) {
             Ok(piece) => {
                 self.marks.learn(self.stage, self.place, taken, piece.count);
-                self.bytes = bytes;
                 self.stage = piece.next;
-                self.given = 0;
-                self.filled = piece.count;
+                self.window.hold(piece.count);
                 Ok(())
             }
             Err(e) => {
@@ -349,17 +315,15 @@ impl<R: BufRead> ArmoredReader<R> {
     // Gives what is held, as far as `buf` has room.
     fn give(&mut self, buf: &mut [u8]) -> usize
         requires { self.old.failed ≡ false }
-        ensures count { result ≡ min (length buf.old) (self.old.filled - self.old.given) }
+        ensures count { result ≡ min (length buf.old) (length (held_in self.old.window)) }
         ensures reads { ReadsNothing self.old self.new }
         ensures shown { shown_of self.new ≡ drop result (shown_of self.old) }
         ensures bytes { Delivers (take result buf.new) (armored_rest self.old) (armored_rest self.new) }
         ensures beyond { drop result buf.new ≡ drop result buf.old }
         ensures moves { WhereTold self.old (self.new.place ≡ self.old.place + result) }
-        ensures sum { WhereTold self.old (self.new.place + (self.new.filled - self.new.given) ≡ self.old.place + (self.old.filled - self.old.given)) }
+        ensures sum { WhereTold self.old (self.new.place + length (held_in self.new.window) ≡ self.old.place + length (held_in self.old.window)) }
     {
-        let count = buf.len().min(self.filled - self.given);
-        buf[..count].copy_from_slice(&self.bytes[self.given..self.given + count]);
-        self.given += count;
+        let count = self.window.give(buf);
         self.place = self.place.saturating_add(count as u64);
         count
     }
@@ -369,9 +333,9 @@ impl<R: BufRead> ArmoredReader<R> {
         requires { self.now.failed ≡ false }
         ensures shown { shown_of self.now ≡ result.now }
         ensures front { IsFront result.now (armored_rest self.now) }
-        ensures none { length result.now ≡ 0 → self.now.given ≡ self.now.filled }
+        ensures none { length result.now ≡ 0 → held_in self.now.window ≡ [] }
     {
-        &self.bytes[self.given..self.filled]
+        self.window.as_slice()
     }
 }
 
@@ -417,7 +381,7 @@ impl<R: BufRead> BufRead for ArmoredReader<R> {
             Consumes reader.tells reader.steady reader.content reader.place reader.rest reader.faults reader.refuses (λ r. shown_of r) self.old self.new amount }
         ensures same { SameButPlace self.old self.new }
     {
-        self.given += amount;
+        self.window.pass(amount);
         self.place = self.place.saturating_add(amount as u64);
     }
 }

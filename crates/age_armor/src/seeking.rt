@@ -85,8 +85,7 @@ impl<R: BufRead + Seek> ArmoredReader<R> {
             }
             Ok(()) => {
                 self.stage = mark.stage;
-                self.given = 0;
-                self.filled = 0;
+                self.window.clear();
                 self.place = mark.place;
                 self.failed = false;
                 Ok(())
@@ -204,8 +203,7 @@ impl<R: BufRead + Seek> ArmoredReader<R> {
         let len = self.source.taken - self.preceding;
         self.marks.reach(len);
         self.marks.learn(Stage::Binary, len, len, 0);
-        self.given = 0;
-        self.filled = 0;
+        self.window.clear();
         self.place = len;
         self.failed = false;
         Ok(())
@@ -232,8 +230,7 @@ impl<R: BufRead + Seek> ArmoredReader<R> {
             }
         }
         self.marks.reach(target);
-        self.given = 0;
-        self.filled = 0;
+        self.window.clear();
         self.place = target;
         self.failed = false;
         Ok(target)

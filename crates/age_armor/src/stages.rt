@@ -247,6 +247,7 @@ pub(crate) fn advance<R: BufRead>(
     ensures form { IsTrue (R.Read.tells source.old.inner) → is_start stage ≡ true →
         IfOk result (λ piece. FindsForm (has_lines piece.next) (R.Read.rest source.old.inner).bytes) }
     ensures kept_form { is_start stage ≡ false → IfOk result (λ piece. has_lines piece.next ≡ has_lines stage) }
+    ensures size { length bytes.new ≡ 48 }
 {
     match stage {
         Stage::Start => first(source, decoder, line, bytes),

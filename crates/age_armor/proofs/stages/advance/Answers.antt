@@ -1,4 +1,4 @@
-use Rattle.std.proofs.Common.{◌∙◌, arith, ap, sym}
+use Rattle.std.proofs.Common.{rules, ◌∙◌, arith, ap, sym}
 use Rattle.age_armor.specs.Stages.{is_start}
 use Rattle.std.proofs.lemmas.Bool.{true≢false}
 use Rattle.std.proofs.lemmas.Result.{IfOk-weaker}
@@ -17,6 +17,7 @@ returns-in-Start g c =
       binary = λ told plain start. now.binary told (start (ap is_start c.in-Start.is));
       form = λ told start. now.form told;
       kept_form = λ no. absurd (true≢false (rw c.in-Start.is at no));
+      size = search rules;
     }
 
 pub returns-in-Binary : goal.returns-in-Binary
@@ -32,6 +33,7 @@ returns-in-Binary g c =
       binary = λ told plain start. now.counts;
       form = λ told start. absurd (true≢false (sym (rw c.in-Binary.is at start)));
       kept_form = λ no. rw c.in-Binary.is now.binary;
+      size = search rules;
     }
 
 pub returns-in-Lines : goal.returns-in-Lines
@@ -47,4 +49,5 @@ returns-in-Lines g c =
       binary = λ told plain start. absurd (true≢false (rw c.in-Lines.is at plain));
       form = λ told start. absurd (true≢false (sym (rw c.in-Lines.is at start)));
       kept_form = λ no. rw c.in-Lines.is now.lines;
+      size = search rules;
     }

@@ -1,7 +1,7 @@
 use Rattle.std.proofs.Common.{◌≡◌, sym, ap, arith}
 use Rattle.age_io.specs.Stretch.{whole}
-use Rattle.age_armor.specs.Reader.{armored_content, armored_rest, place_of}
-use Rattle.age_v1.proofs.DeliveredArmors.{stands_by}
+use Rattle.age_armor.specs.Reader.{armored_rest}
+use Rattle.age_armor.specs.PlaceLemmas.{stands_armored}
 use Rattle.age_stream.specs.ReadingLemmas.{and-left, and-right}
 use Rattle.age_v1.specs.Identities.{FirstAnswer}
 use Rattle.age_protocol.proofs.Decrypted.{both_told}
@@ -36,9 +36,7 @@ returns-in-Ok-open_file-clause-opened g c =
       rest = made.rest;
       stands = λ told.
           let text_told = both_told _ _ _ _ made.tells made.steady told in
-          let t = and-left _ _ text_told in
-          let s = and-right _ _ text_told in
-          stands_by (armored_content text) (armored_rest text) (place_of text) (text.inside t s) (text.follows t s);
+          stands_armored text (and-left _ _ text_told) (and-right _ _ text_told);
       named = made.named;
       holds = c.in-Ok-open_file.ensures.opened;
     }
@@ -56,9 +54,7 @@ returns-in-Err-open_file-clause-refused g c =
       rest = made.rest;
       stands = λ told.
           let text_told = both_told _ _ _ _ made.tells made.steady told in
-          let t = and-left _ _ text_told in
-          let s = and-right _ _ text_told in
-          stands_by (armored_content text) (armored_rest text) (place_of text) (text.inside t s) (text.follows t s);
+          stands_armored text (and-left _ _ text_told) (and-right _ _ text_told);
       named = made.named;
       holds = c.in-Err-open_file.ensures.refused;
     }

@@ -4,7 +4,7 @@ use Rattle.age_error.specs.DecryptErrors.{decrypt_of_io}
 use Rattle.age_io.specs.Stretch.{whole, from_place, stretch-ext}
 use Rattle.age_v1.specs.Armor.{Carries}
 use Rattle.age_v1.specs.DeliveredArmor.{stretch_of, text_delivers}
-use Rattle.age_v1.proofs.DeliveredArmors.{stands_by}
+use Rattle.age_armor.specs.PlaceLemmas.{stands_armored}
 use Rattle.age_armor.specs.Reader.{armored_rest, armored_content, place_of, refuses_of}
 use Rattle.age_stream.specs.Reader.{refuses_of as stream_refuses}
 use Rattle.age_v1.specs.Identities.{Unwraps}
@@ -71,7 +71,7 @@ returns-in_err-read_to_end-clause-refused g c =
             (λ known.
             ap (from_place (place_of after)) (asks.same.content refl)
             ∙ front-stands (armored_content input) (armored_rest input) (armored_rest after) (place_of input) (place_of after) opened.h opened.nonce
-            (stands_by (armored_content input) (armored_rest input) (place_of input) (input.inside refl refl) (input.follows refl refl)) (asks.front refl)) own))
+            (stands_armored input refl refl) (asks.front refl)) own))
             (λ text. inl (from_slice refuses_of input c.new.result _ _ c.args.file.now e c.new.ensures.content c.new.ensures.place c.in_ok-input.ensures.opens.named text))
             (from_stream stream_refuses refuses_of _ c.in_ok-reader.reader after input e opens.reader.named (λ s. s.is) asks.narrows tried))
             read.keeps.why),

@@ -2,7 +2,7 @@ use Rattle.std.proofs.Common.{◌≡◌, ◌∙◌, ap, sym, refl, subst, arith,
 use Rattle.age_io.specs.Stretch.{Stretch, whole, from_place, stretch-ext}
 use Rattle.age_io.specs.Buffered as buffered
 use Rattle.age_armor.specs.Reader.{inner_of, armored_rest, armored_content, place_of, refuses_of as armor_refuses}
-use Rattle.age_v1.proofs.DeliveredArmors.{stands_by}
+use Rattle.age_armor.specs.PlaceLemmas.{stands_armored}
 use Rattle.age_stream.specs.Reader.{refuses_of}
 use Rattle.age_stream.specs.Keeping.{IsPayloadRefusal}
 use Rattle.age_v1.specs.Payload.{payload_key}
@@ -114,8 +114,7 @@ returns-in_err-copy_all g c =
                 let t = and-left _ _ text_told in
                 ap (from_place (place_of made.input)) (asks.same.content t)
                 ∙ front-stands (armored_content c.in_ok-text.text) (armored_rest c.in_ok-text.text) left (place_of c.in_ok-text.text) (place_of made.input) made.h made.nonce
-                (stands_by (armored_content c.in_ok-text.text) (armored_rest c.in_ok-text.text) (place_of c.in_ok-text.text)
-                (c.in_ok-text.text.inside t (and-right _ _ text_told)) (c.in_ok-text.text.follows t (and-right _ _ text_told))) (asks.front t)) own,
+                (stands_armored c.in_ok-text.text t (and-right _ _ text_told)) (asks.front t)) own,
           )))
           (λ armored. inl (inr (from_text armor_refuses g.R.Read c.in_ok-text.text reader e text.named armored)))
           (from_stream refuses_of armor_refuses _ c.in_ok-stream.stream made.input c.in_ok-text.text e made.opens.reader.named (λ s. s.is) asks.narrows tried))

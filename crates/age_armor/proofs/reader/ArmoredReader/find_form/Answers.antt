@@ -1,6 +1,6 @@
 use Rattle.std.proofs.Common.{◌∙◌, arith, refl, inr}
 use Rattle.age_armor.specs.Reader.{armored_reader, refuses_of}
-use Rattle.age_armor.proofs.Keeping.{goes-unrefused, text-later}
+use Rattle.age_armor.proofs.Keeping.{stands_inside, goes-unrefused, text-later}
 use Rattle.age_armor.proofs.Going.{misses-own, came-on, came-goes, walk-goes, walk-misses}
 use Rattle.age_armor.proofs.reader.ArmoredReader.find_form.Goals as goal
 
@@ -37,7 +37,7 @@ returns-in-Ok-walk g c =
     let new = c.walk.new.self in
     let first = c.in-Ok.ensures in
     let last = c.in-Ok-walk.ensures in
-    let came = came-on before middle new 1 first.goes first.text first.stands last.goes last.text last.good.good last.along last.ending new.inside in
+    let came = came-on before middle new 1 first.goes first.text first.stands last.goes last.text last.good.good last.along last.ending (stands_inside new) in
     record {
       keeps = (came-goes before new came).keeps;
       text = came.text;

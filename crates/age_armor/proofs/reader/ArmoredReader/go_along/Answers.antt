@@ -9,7 +9,7 @@ use Rattle.age_armor.specs.Steps.{WhereSteady, LandsBelow}
 use Rattle.age_armor.specs.PrivateSteps.{WhereTold}
 use Rattle.age_armor.specs.Reader.{armored_reader, source_of, armored_content, armored_rest, refuses_of}
 use Rattle.age_armor.proofs.Aiming.{moved-within, moved-past}
-use Rattle.age_armor.proofs.Keeping.{goes-unrefused, goes-refused, armor-plain, text-later}
+use Rattle.age_armor.proofs.Keeping.{stands_inside, goes-unrefused, goes-refused, armor-plain, text-later}
 use Rattle.age_armor.proofs.Going.{reaches-none, misses-none, misses-own, came-on, came-goes, came-stands, came-end, walk-goes, walk-misses}
 use Rattle.age_armor.proofs.reader.ArmoredReader.go_along.Goals as goal
 
@@ -44,7 +44,7 @@ returns-else-there-clause-goes g c =
     let new = c.walk.new.self in
     let first = c.in-Ok.ensures in
     let last = c.in-Ok-walk.ensures in
-    let came = came-on before c.approach.new.self new c.args.target first.goes first.text first.stands last.goes last.text last.good.good last.along last.ending new.inside in
+    let came = came-on before c.approach.new.self new c.args.target first.goes first.text first.stands last.goes last.text last.good.good last.along last.ending (stands_inside new) in
     let ends : WhereTold before (IsCleanEnd (armored_rest new) × (new.place < c.args.target)) = λ told. last.comes.end (first.goes.keeps.same.tells ∙ told) c.if-there.false in
     let end = came-end before new came (λ told. (ends told).0) in
     let len = length (armored_content before).bytes in
@@ -69,7 +69,7 @@ returns-then-there g c =
     let first = c.in-Ok.ensures in
     let back = first.goes.keeps.same in
     let last = c.in-Ok-walk.ensures in
-    let came = came-on before middle new c.args.target first.goes first.text first.stands last.goes last.text last.good.good last.along last.ending new.inside in
+    let came = came-on before middle new c.args.target first.goes first.text first.stands last.goes last.text last.good.good last.along last.ending (stands_inside new) in
     let len = length (armored_content before).bytes in
     let place : WhereTold before (new.place ≡ c.args.target) = λ told. last.comes.there (back.tells ∙ told) c.if-there.true in
     let within : WhereSteady before (c.args.target ≤ len) = λ told steady.

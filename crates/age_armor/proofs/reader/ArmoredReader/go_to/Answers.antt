@@ -20,18 +20,18 @@ returns-then-is_at g c =
     let before = c.args.self.now in
     let at = c.is_at.ensures.yes c.if-is_at.true in
     record {
-      goes = record { keeps = keeps-done _ _ _ _ (same-self _ before) (λ e h. h); unspent = before.unspent at.0 at.1 };
+      goes = record { keeps = keeps-done _ _ _ _ (same-self _ before) (λ e h. h); unspent = before.sound.unspent at.0 at.1 };
       text = text-still _ _ refl refl refl;
       reaches = record {
         stands = record {
           good = at.0;
-          rest = λ told steady. (before.here told steady at.0 at.1).0;
-          ending = λ told steady. (before.here told steady at.0 at.1).1;
+          rest = λ told steady. ((before.sound.text told steady).here at.0 at.1).rest;
+          ending = λ told steady. ((before.sound.text told steady).here at.0 at.1).ending;
         };
         there = refl;
         place = λ told. at.2;
         exact = λ told steady. moved-within c.args.target (length (armored_content before).bytes)
-            (subst (λ n. n ≤ length (armored_content before).bytes) at.2 (before.inside told steady));
+            (subst (λ n. n ≤ length (armored_content before).bytes) at.2 (before.sound.text told steady).inside);
       };
       misses = misses-none _ _ _ _;
       spares = record { lines = λ told steady noting near. omega arith; outside = λ told steady known. tt };
@@ -50,7 +50,7 @@ returns-then-ends_before g c =
       misses = record {
         missed = λ refusal e h. h;
         refused = λ told steady refusal.
-            let is = (before.known told).end known.0 known.1 steady in
+            let is = (before.sound.known told).end known.0 known.1 steady in
             (is.well, moved-past c.args.target (length (armored_content before).bytes) (omega (arith, is.same, known.2)));
         named = λ told well own. absurd (own tt);
       };
@@ -98,7 +98,7 @@ returns g c =
         ];
         outside = λ told steady known. IfErr-weaker result _ _ (λ e refused refusal.
             let some = some_length before.marks.length known in
-            let is = (before.known told).end some.0 some.1 steady in
+            let is = (before.sound.known told).end some.0 some.1 steady in
             absurd (omega (arith, past-moved target (length (armored_content before).bytes) e (refused refusal).1, is.same, c.ends_before.ensures.no c.if-ends_before.false some.0 some.1)))
             (next.misses.refused told steady);
       };
@@ -106,7 +106,7 @@ returns g c =
         still = λ good begun at. absurd (c.is_at.ensures.no c.if-is_at.false good begun at);
         unmoved = λ told steady good at. elim (cases_Bool (is_start before.stage)) [
           | inl start ↦
-              let zero : target ≡ 0 = omega (arith, (before.paced told good).first start, at) in
+              let zero : target ≡ 0 = omega (arith, (before.sound.paced told good).first start, at) in
               elim first.finds [
                 | inl is ↦ on_ok_weaker result (λ same. omega (arith, same, ap (λ r. r.source.lines) is)) (last.unread zero)
                 | inr unread ↦ absurd (omega (arith, unread.1, zero))

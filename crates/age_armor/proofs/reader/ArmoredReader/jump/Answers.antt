@@ -6,6 +6,8 @@ use Rattle.age_io.specs.Keeping.{KeepsReader, OrSeek}
 use Rattle.age_io.proofs.Keeping.{same-later, keeps-later, keeps-refused, seek-narrows}
 use Rattle.age_armor.specs.declared.stages.Stage.TheVariants.{Binary}
 use Rattle.age_armor.specs.PrivateMarks.{Resumes}
+use Rattle.age_armor.specs.PrivateReader.{IsSound}
+use Rattle.age_armor.specs.Windows.{held_in}
 use Rattle.age_armor.specs.Reader.{armored_reader, armored_content, armored_rest, origin_of, source_of, text_outcome_of}
 use Rattle.age_armor.specs.ReaderLemmas.{well_inner}
 use Rattle.age_armor.specs.Refusing.{OrWant}
@@ -17,8 +19,8 @@ use Rattle.age_armor.specs.PrivateSteps.{WhereTold}
 use Rattle.age_armor.proofs.Ahead.{shown_none}
 use Rattle.age_armor.proofs.Aiming.{moved-within, moved-past}
 use Rattle.age_armor.proofs.Going.{reaches-none, misses-none, misses-own}
-use Rattle.age_armor.proofs.Invariants.{IsSound, sound-failed, sound-resumed}
-use Rattle.age_armor.proofs.Keeping.{same-text, same-armored, armored-done, armored-refused, armor-narrows, text-moved}
+use Rattle.age_armor.proofs.Invariants.{sound-failed, sound-resumed}
+use Rattle.age_armor.proofs.Keeping.{stands_inside, same-text, same-armored, armored-done, armored-refused, armor-narrows, text-moved}
 use Rattle.age_armor.proofs.Refusing.{want-narrows, want-own}
 use Rattle.age_armor.proofs.Resuming.{resumes_binary, resumed_rest, resumed_ending, carried_binary}
 use Rattle.age_armor.proofs.Taking.{quiet_after}
@@ -29,8 +31,10 @@ pub invariant_of-self : goal.invariant_of-self
 invariant_of-self g c =
     let before = c.args.self.now in
     let now = c.in-Err.ensures in
-    sound-failed before c.leap.new.self before.preceding before.place now.keeps.same (λ told. ap (λ n. n + before.preceding) (now.origin told))
-    (λ told steady. omega (arith, before.behind told steady, now.refused)) before.fits before.inside (omega (arith, now.lines))
+    record {
+      sound = sound-failed before c.leap.new.self before.preceding before.place _ now.keeps.same (λ told. ap (λ n. n + before.preceding) (now.origin told))
+          (λ told steady. omega (arith, (before.sound.text told steady).behind, now.refused)) before.sound.fits (stands_inside before) (omega (arith, now.lines));
+    }
 
 -- ---- past the end
 
@@ -38,8 +42,10 @@ pub invariant_of-self-then-not-there : goal.invariant_of-self-then-not-there
 invariant_of-self-then-not-there g c =
     let before = c.args.self.now in
     let now = c.in-Ok.ensures in
-    sound-failed before c.leap.new.self before.preceding before.place now.keeps.same (λ told. ap (λ n. n + before.preceding) (now.origin told))
-    (λ told steady. omega (arith, before.behind told steady, now.stays c.if-not-there.true)) before.fits before.inside (omega (arith, now.lines))
+    record {
+      sound = sound-failed before c.leap.new.self before.preceding before.place _ now.keeps.same (λ told. ap (λ n. n + before.preceding) (now.origin told))
+          (λ told steady. omega (arith, (before.sound.text told steady).behind, now.stays c.if-not-there.true)) before.sound.fits (stands_inside before) (omega (arith, now.lines));
+    }
 
 pub returns-in-Err-jump_to_end-clause-goes : goal.returns-in-Err-jump_to_end-clause-goes
 returns-in-Err-jump_to_end-clause-goes g c =
@@ -78,7 +84,7 @@ returns-in-Ok-jump_to_end-clause-goes g c =
     let origin : WhereTold before (origin_of new ≡ origin_of before) = λ told. last.origin (back.tells ∙ told) ∙ ap (λ n. n + before.preceding) (first.origin told) in
     let armored = same-armored before new same origin in
     let form : WhereSteady before (FindsForm false (source_of before).bytes) = λ told steady.
-    subst (λ s. FindsForm (has_lines s) (source_of before).bytes) c.requires (before.form told steady (ap is_start c.requires)) in
+    subst (λ s. FindsForm (has_lines s) (source_of before).bytes) c.requires ((before.sound.text told steady).form (ap is_start c.requires)) in
     record {
       goes = record { keeps = keeps-refused armored_reader _ before new PastEnd armored (λ device. device) (inl (inl tt)); unspent = tt };
       text = text-moved before new same origin last.text.learns (omega (arith, last.lines, first.lines)) (λ told steady plain. last.lines ∙ first.lines);
@@ -93,7 +99,7 @@ returns-in-Ok-jump_to_end-clause-goes g c =
             (λ told. ap (λ n. n + before.preceding) (first.origin told)) in
             let stands : armored_rest new ≡ from_place new.place (armored_content before) = last.stands.rest told_then steady_then ∙ ap (from_place new.place) (text.content told_then) in
             let end = ends_at (armored_content before) (armored_rest new) new.place stands (last.end told_then)
-            (subst (λ s. new.place ≤ length s.bytes) content (new.inside (armored.tells ∙ told) (armored.steady ∙ steady))) in
+            (subst (λ s. new.place ≤ length s.bytes) content (stands_inside new (armored.tells ∙ told) (armored.steady ∙ steady))) in
             let well = well_inner (reader.content before.source.inner) (origin_of before) end.0 in
             let past = first.past told well c.if-not-there.true in
             let size : length (armored_content before).bytes ≡ length (source_of before).bytes = ap (λ o. length o.bytes) (carried_binary (source_of before) (form told steady)) in (
@@ -118,20 +124,22 @@ invariant_of-self-2 g c =
     let there = now.there c.if-not-there.false in
     let sum : c.saturating_add.result ≡ before.preceding + target = omega (arith, there, c.saturating_add.ensures) in
     let form : WhereSteady before (FindsForm false (source_of before).bytes) = λ told steady.
-    subst (λ s. FindsForm (has_lines s) (source_of before).bytes) c.requires (before.form told steady (ap is_start c.requires)) in
+    subst (λ s. FindsForm (has_lines s) (source_of before).bytes) c.requires ((before.sound.text told steady).form (ap is_start c.requires)) in
     let resumes : WhereSteady before (Resumes (source_of before) Binary target target) = λ told steady.
     resumes_binary (source_of before) target (form told steady)
     (omega (arith, now.within told steady c.if-not-there.false, sum, length-drop (origin_of before) content.bytes)) in
-    subst (λ s. IsSound source before.preceding s before.bytes 0 0 target false c.reach.new.self) (sym c.requires)
-    (sound-resumed before source before.preceding Binary target target c.reach.new.self now.keeps.same (λ told. ap (λ n. n + before.preceding) (now.origin told))
-    (there.0 ∙ sum) (now.unspent c.if-not-there.false) (g.met.R.Read.place_fits source.inner) (λ start. absurd (true≢false (sym start))) refl
-    (λ full. absurd (true≢false (sym (ap has_lines full)))) (λ told. (omega arith, resumes told))
-    (λ told steady. now.rest told steady c.if-not-there.false ∙ ap (λ n. from_place n content) (omega (arith, sum)))
-    (λ told. (
-      c.reach.ensures.knows (reader.steady before.source.inner) (source_of before) (before.known told) (λ steady. (resumes told steady).within) (λ steady. sym (form told steady).same),
-      c.reach.ensures.reaches,
-    ))
-    (λ told steady start. absurd (true≢false (sym start))) (λ told other. absurd (other refl)))
+    record {
+      sound = subst (λ s. IsSound source before.preceding s (held_in c.clear.new.self) target false c.reach.new.self) (sym c.requires)
+          (sound-resumed before source before.preceding Binary (held_in c.clear.new.self) target target c.reach.new.self c.clear.ensures now.keeps.same (λ told. ap (λ n. n + before.preceding) (now.origin told))
+          (there.0 ∙ sum) (now.unspent c.if-not-there.false) (g.met.R.Read.place_fits source.inner) (λ start. absurd (true≢false (sym start))) refl
+          (λ full. absurd (true≢false (sym (ap has_lines full)))) (λ told. (omega arith, resumes told))
+          (λ told steady. now.rest told steady c.if-not-there.false ∙ ap (λ n. from_place n content) (omega (arith, sum)))
+          (λ told. (
+            c.reach.ensures.knows (reader.steady before.source.inner) (source_of before) (before.sound.known told) (λ steady. (resumes told steady).within) (λ steady. sym (form told steady).same),
+            c.reach.ensures.reaches,
+          ))
+          (λ told steady start. absurd (true≢false (sym start))) (λ told other. absurd (other refl)));
+    }
 
 pub returns-clause-goes : goal.returns-clause-goes
 returns-clause-goes g c =
@@ -144,7 +152,7 @@ returns-clause-goes g c =
     let there = now.there c.if-not-there.false in
     let sum : c.saturating_add.result ≡ before.preceding + target = omega (arith, there, c.saturating_add.ensures) in
     let form : WhereSteady before (FindsForm false (source_of before).bytes) = λ told steady.
-    subst (λ s. FindsForm (has_lines s) (source_of before).bytes) c.requires (before.form told steady (ap is_start c.requires)) in
+    subst (λ s. FindsForm (has_lines s) (source_of before).bytes) c.requires ((before.sound.text told steady).form (ap is_start c.requires)) in
     let resumes : WhereSteady before (Resumes (source_of before) before.stage target target) = λ told steady.
     rw c.requires (resumes_binary (source_of before) target (form told steady)
     (omega (arith, now.within told steady c.if-not-there.false, sum, length-drop (origin_of before) content.bytes))) in
@@ -157,8 +165,8 @@ returns-clause-goes g c =
       reaches = record {
         stands = record {
           good = refl;
-          rest = λ told steady. resumed_rest content (reader.rest source.inner) (origin_of before) target target before.stage before.bytes (resumes told steady) (rest told steady);
-          ending = λ told steady. resumed_ending content (reader.rest source.inner) (origin_of before) target target before.stage before.bytes (resumes told steady) (rest told steady);
+          rest = λ told steady. resumed_rest content (reader.rest source.inner) (origin_of before) target target before.stage (held_in c.clear.new.self) c.clear.ensures (resumes told steady) (rest told steady);
+          ending = λ told steady. resumed_ending content (reader.rest source.inner) (origin_of before) target target before.stage (held_in c.clear.new.self) (resumes told steady) (rest told steady);
         };
         there = refl;
         place = λ told. refl;
@@ -170,4 +178,4 @@ returns-clause-goes g c =
 pub returns-clause-lands : goal.returns-clause-lands
 returns-clause-lands g c =
     let there = c.in-Ok.ensures.there c.if-not-there.false in
-    record { taken = omega (arith, there, c.saturating_add.ensures); shown = shown_none false c.args.self.now.bytes 0 0 (omega arith) refl }
+    record { taken = omega (arith, there, c.saturating_add.ensures); shown = shown_none false (held_in c.clear.new.self) c.clear.ensures }

@@ -5,7 +5,7 @@ use Rattle.age_armor.proofs.Keeping.{reached}
 use Rattle.age_armor.proofs.reader.ArmoredReader.lines.Goals as goal
 
 pub returns-clause-least : goal.returns-clause-least
-returns-clause-least g c = λ told armored. c.args.self.now.lined told (λ binary. true≢false (sym armored ∙ ap has_lines binary))
+returns-clause-least g c = λ told armored. c.args.self.now.sound.lined told (λ binary. true≢false (sym armored ∙ ap has_lines binary))
 
 pub returns-clause-reached : goal.returns-clause-reached
 returns-clause-reached g c = λ told good. reached c.args.self.now told good

@@ -1,4 +1,4 @@
-use Rattle.std.proofs.Common.{◌≡◌, ◌∙◌, false, Ok, arith, length, take, length-drop, ap, sym, subst, refl}
+use Rattle.std.proofs.Common.{[], ◌≡◌, ◌∙◌, false, Ok, arith, length, take, length-drop, ap, sym, subst, refl}
 use Rattle.std.proofs.lemmas.Bool.{true≢false}
 use Rattle.std.proofs.lemmas.Result.{on_ok_weaker}
 use Rattle.age_io.specs.Reading.{Delivers}
@@ -12,6 +12,9 @@ use Rattle.age_armor.proofs.Ahead.{shown_small}
 use Rattle.age_armor.proofs.Forms.{binary_form}
 use Rattle.age_armor.proofs.Keeping.{on_if, form-found, fails-passed, ends-passed, good-done, text-still, text-later, goes-given, reads-done, reads-failed, learned, held_shown, reached}
 use Rattle.age_armor.proofs.Resuming.{not_binary}
+use Rattle.std.proofs.lemmas.List.{nil_from_length}
+use Rattle.age_armor.proofs.Windows.{held_few}
+use Rattle.age_armor.specs.Windows.{held_in}
 use Rattle.age_armor.proofs.reader.ArmoredReader.read_on.Goals as goal
 
 pub returns-then-is_passing : goal.returns-then-is_passing
@@ -35,10 +38,10 @@ returns-then-is_passing g c =
             on_ok_weaker c.pass.result (λ good. form-found before after same now.text (ap is_start now.binary.stage) told steady) now.good.good;
         beyond = λ armored. absurd (true≢false (sym armored ∙ bare));
         untouched = λ armored. absurd (true≢false (sym armored ∙ bare));
-        spared = λ told steady armor. binary_form before.stage (source_of before) passing.0 (before.form told steady (ap is_start passing.0)) armor;
+        spared = λ told steady armor. binary_form before.stage (source_of before) passing.0 ((before.sound.text told steady).form (ap is_start passing.0)) armor;
       };
       counts = λ told. on_if c.pass.result _ _ (λ n moves. record {
-        held = λ some. absurd (omega (arith, some, passing.1));
+        held = λ some. absurd (omega (arith, some, ap length passing.1));
         more = (omega (arith, now.binary.lines), omega (arith, now.binary.lines));
         full = λ none full. not_binary (sym now.binary.stage ∙ full);
         bare = λ is. now.binary.lines;
@@ -90,14 +93,15 @@ returns-in-Ok g c =
     let back = now.goes.keeps.same in
     let goes : Goes armored_reader refuses_of before after (Ok n) = goes-given before held after now.goes given.reads.source given.reads.preceding given.reads.fresh in
     let text = text-later before held after back now.text (text-still held after given.reads.source given.reads.preceding given.reads.marks) in
-    let left = rest_ahead after.failed after.bytes after.given after.filled after.stage (reader.rest after.source.inner) in
+    let left = rest_ahead after.failed (held_in after.window) after.stage (reader.rest after.source.inner) in
     let size = held_shown held now.good.good in
+    let no_more : (n ≡ 0 → held_in held.window ≡ []) = λ none. nil_from_length (held_in held.window) (omega (arith, none, given.count, c.requires.some)) in
     let form = form-found before held back now.text now.holds.begun in
     record {
       reads = reads-done before after c.give.new.buf n goes.keeps (λ some. goes.unspent) (omega (arith, given.count, c.give.auto.buf))
           (λ told. subst (λ s. Delivers (take n c.give.new.buf) s left) (now.holds.rest told) given.bytes)
           (λ told. omega (arith, given.moves (back.tells ∙ told), now.holds.place))
-          (λ told none some. now.holds.end told (omega (arith, none, given.count, held.order, c.requires.some)));
+          (λ told none some. now.holds.end told (no_more none));
       good = good-done _ _ c.requires.good given.reads.fresh;
       ending = record { same = λ told. given.reads.ending ∙ now.ending.same told; named = λ told good. tt };
       why = λ told. tt;
@@ -105,8 +109,8 @@ returns-in-Ok g c =
       gives = record {
         held = λ some. omega (arith, given.count, size, ap length ((now.holds.same some).1));
         line = λ armored.
-            let shown = shown_ahead held.failed held.bytes held.given held.filled in
-            omega (arith, given.count, size, shown_small held.failed held.bytes held.given held.filled held.within, length-drop n shown, ap length given.shown);
+            let shown = shown_ahead held.failed (held_in held.window) in
+            omega (arith, given.count, size, shown_small held.failed (held_in held.window) (held_few held.window), length-drop n shown, ap length given.shown);
         form = λ some told steady. ap has_lines given.reads.stage ∙ form told steady;
         beyond = λ armored. given.beyond;
         untouched = λ armored. tt;
@@ -127,11 +131,11 @@ returns-in-Ok g c =
           (λ told armored.
           let line = now.holds.line (sym (ap has_lines given.reads.stage) ∙ armored) in
           let moves = given.moves (back.tells ∙ told) in
-          let shown = shown_ahead held.failed held.bytes held.given held.filled in
+          let shown = shown_ahead held.failed (held_in held.window) in
           record {
             held = λ some. lines ∙ line.held some;
             next = λ none more. lines ∙ line.next none (omega (arith, more, moves, now.holds.place, given.count, size, length-drop n shown, ap length given.shown));
           });
       knows = λ none.
-          ap (λ m. is_known m.length) given.reads.marks ∙ now.holds.knows (omega (arith, none, given.count, c.requires.some, held.order));
+          ap (λ m. is_known m.length) given.reads.marks ∙ now.holds.knows (no_more none);
     }

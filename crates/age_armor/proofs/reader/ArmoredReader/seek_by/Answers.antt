@@ -9,7 +9,7 @@ returns-then-self g c =
     let before = c.args.self.now in
     let now = c.fail_at.ensures in
     let untold : (IsTrue (g.R.Read.tells before.source.inner) → ⊥) = λ told.
-    let fits : before.place < 2 ^ 63 = before.fits told in omega (arith, fits, c.if-self.true) in
+    let fits : before.place < 2 ^ 63 = before.sound.fits told in omega (arith, fits, c.if-self.true) in
     record {
       seeks = too-long _ _ g.R.Seek.seek_refuses before c.fail_at.new.self _ _ _ (same-source _ _ now.source now.preceding) now.failed untold;
       text = text-still _ _ now.source now.preceding now.marks;

@@ -41,4 +41,7 @@ come_back-requires-clause-inside g c = λ told steady.
     let before = c.args.self.now in
     let same = c.in-Err.ensures.goes.keeps.same in
     let told_before = sym same.tells ∙ told in
-    subst (λ s. before.place ≤ length s.bytes) (sym (same.content told_before)) (before.inside told_before (sym same.steady ∙ steady))
+    subst (λ s. before.place ≤ length s.bytes) (sym (same.content told_before)) ((before.sound.text told_before (sym same.steady ∙ steady)).inside)
+
+pub come_back-requires-clause-fits : goal.come_back-requires-clause-fits
+come_back-requires-clause-fits g c = λ told. c.args.self.now.sound.fits (sym c.in-Err.ensures.goes.keeps.same.tells ∙ told)

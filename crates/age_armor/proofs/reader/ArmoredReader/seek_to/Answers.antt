@@ -1,5 +1,5 @@
-use Rattle.std.proofs.Common.{◌∙◌, sym}
-use Rattle.age_armor.proofs.Keeping.{text-later}
+use Rattle.std.proofs.Common.{length, subst, ◌≤◌, ◌∙◌, sym}
+use Rattle.age_armor.proofs.Keeping.{stands_inside, text-later}
 use Rattle.age_armor.proofs.Going.{ends-later, seek-done, seek-missed, takes-back}
 use Rattle.age_armor.proofs.reader.ArmoredReader.seek_to.Goals as goal
 
@@ -30,3 +30,13 @@ returns-in-Err g c =
       still = λ good begun at. absurd (cc (sym c.in-Err.is ∙ (c.go_to.ensures.stays.still good begun at).0));
       ending = ends-later before middle after now.goes.keeps.same now.text back.ending;
     }
+
+pub come_back-requires-clause-fits : goal.come_back-requires-clause-fits
+come_back-requires-clause-fits g c = λ told. c.args.self.now.sound.fits (sym c.in-Err.ensures.goes.keeps.same.tells ∙ told)
+
+pub come_back-requires-clause-inside : goal.come_back-requires-clause-inside
+come_back-requires-clause-inside g c = λ told steady.
+    let before = c.args.self.now in
+    let same = c.in-Err.ensures.goes.keeps.same in
+    let told_before = sym same.tells ∙ told in
+    subst (λ s. before.place ≤ length s.bytes) (sym (same.content told_before)) (stands_inside before told_before (sym same.steady ∙ steady))

@@ -7,6 +7,8 @@ use Rattle.age_armor.proofs.Keeping.{good-done, good-failed, text-learned, text-
 use Rattle.age_armor.proofs.Pacing.{open_stage, counted_on}
 use Rattle.age_armor.proofs.Taking.{quiet_after}
 use Rattle.age_armor.proofs.Walking.{further, still_clean, ends_before}
+use Rattle.std.proofs.lemmas.List.{nil_from_length}
+use Rattle.age_armor.specs.Windows.{held_in}
 use Rattle.age_armor.proofs.reader.ArmoredReader.walk.Goals as goal
 
 pub returns-in-Err : goal.returns-in-Err
@@ -128,8 +130,8 @@ reads-preserved g c =
           let front = take n c.read_on.new.buf in
           let size : length front ≡ n = length-take-le n c.read_on.new.buf reads.count in
           counted_on _ _ _ _ _ _ _ _ _ _ _ (c.in-Ok.ensures.counts told_now) (loop.counted told steady stands inside) (omega (arith, loop.place told, c.reads-test.true))
-          (λ none. open_stage now.failed now.bytes now.given now.filled now.stage (g.R.Read.rest now.source.inner) _ front loop.good (omega (arith, now.within, now.room))
-          (omega (arith, none)) (reads.bytes told_now) (omega (arith, size, c.in-Ok.count-test)));
+          (λ none. open_stage now.failed (held_in now.window) now.stage (g.R.Read.rest now.source.inner) _ front loop.good (nil_from_length (held_in now.window) none)
+          (reads.bytes told_now) (omega (arith, size, c.in-Ok.count-test)));
       begun = λ told further. (c.in-Ok.ensures.counts (loop.same.tells ∙ told)).begun;
       left = omega (arith, loop.left);
       still = λ at. absurd (omega (arith, at, loop.left, c.reads-test.true));

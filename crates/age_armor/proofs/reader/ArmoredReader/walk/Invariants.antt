@@ -6,6 +6,7 @@ use Rattle.age_io.specs.Reading.{AddsNoReason, TriedAgain, most_faults}
 use Rattle.age_io.specs.Keeping.{SameReader}
 use Rattle.age_armor.specs.Reader.{outcome_of, refuses_of, armored_reader, armored_content, armored_rest}
 use Rattle.age_armor.specs.PrivateSteps.{KeepsText}
+use Rattle.age_armor.specs.Windows.{held_in}
 use Rattle.age_armor.proofs.reader.ArmoredReader.walk.Given as goal
 
 abbrev pub invariant-reads : goal.invariant-reads
@@ -27,7 +28,7 @@ invariant-reads g l =
       still : l.fn.self.place ≡ l.target → l.self ≡ l.fn.self;
       counted : IsTrue (reader.tells l.fn.self.source.inner) → IsTrue (reader.steady l.fn.self.source.inner) →
           armored_rest l.fn.self ≡ from_place l.fn.self.place (armored_content l.fn.self) → l.target ≤ length (armored_content l.fn.self).bytes →
-          IsCounted l.self.stage l.fn.self.place l.fn.self.source.lines l.target l.self.place (l.self.filled - l.self.given) l.self.source.lines;
+          IsCounted l.self.stage l.fn.self.place l.fn.self.source.lines l.target l.self.place (length (held_in l.self.window)) l.self.source.lines;
     }
 
 abbrev pub decreases-reads : goal.decreases-reads

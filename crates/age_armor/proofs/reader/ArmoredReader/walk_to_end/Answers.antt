@@ -2,7 +2,7 @@ use Rattle.std.proofs.Common.{◌∙◌, arith, refl, inl, inr}
 use Rattle.age_error.specs.declared.io.Error.TheVariants.{TooLong}
 use Rattle.age_error.specs.declared.io.SeekFrom.TheVariants.{End}
 use Rattle.age_armor.specs.Reader.{armored_reader, refuses_of}
-use Rattle.age_armor.proofs.Keeping.{goes-error, goes-unrefused, goes-refused, text-later}
+use Rattle.age_armor.proofs.Keeping.{stands_inside, goes-error, goes-unrefused, goes-refused, text-later}
 use Rattle.age_armor.proofs.Going.{misses-own, came-on, came-goes, walk-goes, walk-misses}
 use Rattle.age_armor.proofs.reader.ArmoredReader.walk_to_end.Goals as goal
 
@@ -51,7 +51,7 @@ returns-then-there g c =
       knows = tt;
       misses = λ d. misses-own _ _ (End d) _ (λ refusal. refusal) (λ told well other quiet.
           let told_middle = back.tells ∙ told in
-          let fits = new.fits (last.goes.keeps.same.tells ∙ told_middle) in
+          let fits = new.sound.fits (last.goes.keeps.same.tells ∙ told_middle) in
           absurd (omega (arith, last.comes.there told_middle c.if-there.true, fits)));
     }
 
@@ -61,7 +61,7 @@ returns-else-there g c =
     let new = c.walk.new.self in
     let first = c.in-Ok.ensures in
     let last = c.in-Ok-walk.ensures in
-    let came = came-on before c.approach.new.self new _ first.goes first.text first.stands last.goes last.text last.good.good last.along last.ending new.inside in
+    let came = came-on before c.approach.new.self new _ first.goes first.text first.stands last.goes last.text last.good.good last.along last.ending (stands_inside new) in
     record {
       goes = came-goes before new came;
       text = came.text;

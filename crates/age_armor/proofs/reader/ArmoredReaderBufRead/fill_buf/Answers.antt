@@ -8,6 +8,8 @@ use Rattle.age_armor.proofs.Ahead.{fault_gone}
 use Rattle.age_armor.proofs.Keeping.{fills-failed, goes-refused, form-found, fails-passed, ends-passed, good-done, learned, armor-plain, held_shown}
 use Rattle.age_armor.proofs.Pacing.{learns_none}
 use Rattle.age_v1.specs.DeliveredArmor.{text_delivers}
+use Rattle.std.proofs.lemmas.List.{nil_from_length}
+use Rattle.age_armor.specs.Windows.{held_in}
 use Rattle.age_armor.proofs.reader.ArmoredReaderBufRead.fill_buf.Goals as goal
 
 pub returns-then-self : goal.returns-then-self
@@ -19,7 +21,7 @@ returns-then-self g c =
         λ r. tt,
         fills-failed before before Failed
             (goes-refused armored_reader {T = ℕ} _ before before before Failed (same-self _ before) (same-self _ before) (λ device. device) (inl (failed, refl))) refl failed
-            (λ told other quiet. fault_gone before.failed before.bytes before.given before.filled before.stage (g.R.Read.rest before.source.inner) failed) (
+            (λ told other quiet. fault_gone before.failed (held_in before.window) before.stage (g.R.Read.rest before.source.inner) failed) (
             record {
               text = record {
                 ending = record { same = λ told. tt; named = λ told good. absurd (true≢false (sym failed ∙ good)) };
@@ -90,7 +92,7 @@ returns-in-Ok g c =
             };
             form = form;
             learns = learned before after now.goes.keeps.same now.text now.lines now.good.good (λ told. now.holds.line);
-            knows = λ none. now.holds.knows (omega (arith, ap length none, held_shown after now.good.good, after.order));
+            knows = λ none. now.holds.knows (nil_from_length (held_in after.window) (omega (arith, ap length none, held_shown after now.good.good)));
             good = good-done _ _ c.if-self.false now.good.good;
           };
           same_content = now.goes.keeps.same.content;

@@ -7,6 +7,8 @@ use Rattle.age_armor.specs.Reader.{armored_reader}
 use Rattle.age_armor.proofs.Ahead.{fault_gone, shown_small}
 use Rattle.age_armor.proofs.Keeping.{text-still, reads-done, reads-failed, learned, goes-refused}
 use Rattle.age_armor.proofs.Pacing.{learns_none}
+use Rattle.age_armor.proofs.Windows.{held_few}
+use Rattle.age_armor.specs.Windows.{held_in}
 use Rattle.age_armor.proofs.reader.ArmoredReaderRead.read.Goals as goal
 
 pub returns-then-self : goal.returns-then-self
@@ -15,7 +17,7 @@ returns-then-self g c =
     let gone = c.if-self.true in
     record {
       reads = reads-failed before before _ Failed (goes-refused armored_reader {T = ℕ} _ before before before Failed (same-self _ before) (same-self _ before) (λ device. device) (inl (gone, refl)))
-          refl gone (λ told other quiet. fault_gone before.failed before.bytes before.given before.filled before.stage (g.R.Read.rest before.source.inner) gone);
+          refl gone (λ told other quiet. fault_gone before.failed (held_in before.window) before.stage (g.R.Read.rest before.source.inner) gone);
       besides = record {
         gives = record { held = λ some. tt; line = λ armored. tt; beyond = λ armored. tt; untouched = λ armored. refl; form = λ some told steady. tt; spared = λ told steady armor. refl };
         text = record {
@@ -43,7 +45,7 @@ returns-then-is_empty g c =
       besides = record {
         gives = record {
           held = λ some. omega arith;
-          line = λ armored. omega (arith, shown_small before.failed before.bytes before.given before.filled before.within);
+          line = λ armored. omega (arith, shown_small before.failed (held_in before.window) (held_few before.window));
           beyond = λ armored. refl;
           untouched = λ armored. tt;
           form = λ some. absurd (omega (arith, none, some));

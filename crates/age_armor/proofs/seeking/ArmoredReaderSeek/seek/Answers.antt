@@ -3,7 +3,8 @@ use Rattle.std.proofs.lemmas.Result.{on_ok_weaker}
 use Rattle.age_io.specs.Cursor.{place_at}
 use Rattle.age_v1.specs.DeliveredArmor.{text_delivers}
 use Rattle.age_armor.proofs.Pacing.{shown_begun}
-use Rattle.age_armor.proofs.Keeping.{all_held, reached}
+use Rattle.age_armor.proofs.Keeping.{reached}
+use Rattle.age_armor.specs.Windows.{held_in}
 use Rattle.age_armor.proofs.seeking.ArmoredReaderSeek.seek.Goals as goal
 
 pub returns-in-Start : goal.returns-in-Start
@@ -39,7 +40,7 @@ returns-in-Start g c =
         };
         lands = record {
           still = λ told some here.
-              let holds = shown_begun before.failed before.bytes before.given before.filled before.stage before.order (all_held before) before.fresh some in
+              let holds = shown_begun before.failed (held_in before.window) before.stage before.sound.fresh some in
               let at = rw c.in-Start.is at here in
               let still = now.still holds.0 holds.1 (sym at) in
               (still.0 ∙ ap Ok at, still.1);
@@ -124,7 +125,7 @@ returns-in-Current g c =
         };
         lands = record {
           still = λ told some here.
-              let holds = shown_begun before.failed before.bytes before.given before.filled before.stage before.order (all_held before) before.fresh some in
+              let holds = shown_begun before.failed (held_in before.window) before.stage before.sound.fresh some in
               now.still told holds.0 holds.1 (subst (λ d. place_at before.place d ≡ Some before.place) (sym same) (rw c.in-Current.is at here));
           below = now.below;
         };
