@@ -1,4 +1,5 @@
 pub mod Lines
 pub mod Columns
+pub mod Pieces
 pub mod PaddedColumns
 pub mod Engines

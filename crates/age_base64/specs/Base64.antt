@@ -1,6 +1,7 @@
 -- Base64 of RFC 4648 section 4 over the alphabet of the format.
-use Rattle.std.specs.Prelude.{ℕ, List, true, false, codes}
+use Rattle.std.specs.Prelude.{◌≡◌, ℕ, List, true, false, codes}
 use Rattle.base64.specs.Rfc4648.{encode}
+use Rattle.age_error.specs.Bytes.{AreBytes}
 
 -- the 64 symbols in their order
 abbrev pub symbols : List ℕ
@@ -10,6 +11,10 @@ symbols = codes "ABCDEFGHIJKLMNOPQRSTUVWXYZabcdefghijklmnopqrstuvwxyz0123456789+
 -- standard: canonical base64 of RFC 4648 section 4, without padding; the unused bits are zero, and characters in which they aren't are no base64 of any bytes
 unfoldable pub columns : List ℕ → List ℕ
 columns bytes = encode symbols 61 false bytes
+
+-- they are the columns of some bytes
+abbrev pub AreColumns : List ℕ → Type 0
+AreColumns text = (bytes : List ℕ) × AreBytes bytes × (columns bytes ≡ text)
 
 -- the base64 of armor
 -- standard: canonical base64 of RFC 4648 section 4, with padding
