@@ -21,9 +21,10 @@ pub(crate) struct Counted<R: BufRead> {
     pub(crate) taken: u64,
     // How many lines were taken, as far as the number goes.
     pub(crate) lines: u64,
-    // The bytes of lines that the inner reader shows first and that aren't taken yet: `left` lines, from `next` on.
-    pub(crate) ahead: [u8; 768],
+    // The bytes of lines that the inner reader shows first and that aren't taken yet: `left` lines, from `next` on. (Both numbers
+    // change with each line. Side by side they would be read as one, which waits until both are written.)
     pub(crate) next: usize,
+    pub(crate) ahead: [u8; 768],
     pub(crate) left: usize,
     ghost behind: { IsTrue (R.Read.tells inner) → taken ≤ R.Read.place inner },
     ghost size: { length ahead ≡ 768 },

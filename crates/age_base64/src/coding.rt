@@ -21,7 +21,7 @@ pub fn encode_columns(alloc: Global, bytes: &[u8]) -> Result<String, AllocError>
 }
 
 /// The bytes that the columns stand for, or `None` where they aren't canonical base64 without padding. `AllocError` where
-/// memory is refused, and of columns that are base64 alone: they are judged before it is taken.
+/// memory is refused. It is asked for after they were judged, so it is never the answer of others (`memory`).
 pub fn decode_columns(alloc: Global, text: &[u8]) -> Result<Option<Vec<u8>>, AllocError>
     ensures found { IfOk result (λ found. MatchOption found
         ((bytes : List ℕ) → AreBytes bytes → columns bytes ≡ text.now → ⊥)

@@ -3,7 +3,7 @@ ghost use Rattle.age_io.specs.Copying.{CopiesAll, CopiesSome};
 
 use crate::retry::read_retrying;
 use crate::traits::{Read, Write};
-use crate::whole::{room_for, write_all};
+use crate::whole::{room_for, write_all, write_front};
 use age_error::io::Error;
 use std::alloc::Global;
 
@@ -31,7 +31,7 @@ pub fn copy_all<R: Read, W: Write>(
         if count == 0 {
             return Ok(());
         }
-        write_all(writer, &room[..count])?;
+        write_front(writer, &mut room, count)?;
     }
     Err(Error::TooLong)
 }

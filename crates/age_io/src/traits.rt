@@ -1,11 +1,12 @@
 //! What reads and writes.
-ghost use Rattle.std.specs.Prelude.{◌≡◌, ℕ, ◌^◌, ◌≤◌, ◌<◌, Bool, IsTrue, List, [], ◌++◌, length, Result, ⊤, refl};
+ghost use Rattle.std.specs.Prelude.{◌≡◌, ◌≢◌, ℕ, ◌^◌, ◌≤◌, ◌<◌, Bool, false, IsTrue, List, [], ◌++◌, length, Result, Ok, IfErr, ⊤, refl};
 ghost use Rattle.std.proofs.Common.{◌∙◌};
 ghost use Rattle.age_error.specs.Bytes.{AreBytes};
+ghost use Rattle.age_error.specs.Refusals.{IsInterruption};
 ghost use Rattle.age_error.specs.declared.io.Error.{Error};
 ghost use Rattle.age_io.specs.Stretch.{Stretch, nothing};
 ghost use Rattle.age_io.specs.Reading.{Reads, StandsIn, most_faults};
-ghost use Rattle.age_io.specs.Writing.{Writes, Flushes};
+ghost use Rattle.age_io.specs.Writing.{Retried, Writes, WritesAll, Flushes};
 
 use age_error::io::Error;
 
@@ -112,6 +113,21 @@ pub trait Write {
         ensures flushes { Flushes tells faults refuses appended self.old self.new result }
         ensures besides { flush_besides self.old self.new result };
 
+    /// Takes all bytes of `piece` as `write_all` does, by an exchange of its memory for some of the writer's own, which spares
+    /// a copy, and answers true: `piece` is as long as before then, and what it holds means nothing. Or it takes none,
+    /// changes nothing and answers false, as each writer does that keeps no piece.
+    ///
+    /// It refuses as `write_all` does. It is never `Device(Interrupted)` (`patient`).
+    fn exchange(&mut self, piece: &mut Vec<u8>) -> Result<bool, Error>
+        ensures takes { result ≢ Ok false → WritesAll tells faults (Retried refuses) appended self.old self.new piece.old.items result }
+        ensures none { result ≡ Ok false → (self.new ≡ self.old) × (piece.new.items ≡ piece.old.items) }
+        ensures size { length piece.new.items ≡ length piece.old.items }
+        ensures patient { IfErr result (λ e. IsInterruption e → ⊥) }
+    {
+        let _same = piece;
+        Ok(false)
+    }
+
     /// The count of faults is a u64.
     ghost faults_fit: { (w : Self) → faults w < 2 ^ 64 };
 
@@ -189,5 +205,9 @@ impl<W: Write> Write for &mut W {
 
     fn flush(&mut self) -> Result<(), Error> {
         Write::flush(&mut **self)
+    }
+
+    fn exchange(&mut self, piece: &mut Vec<u8>) -> Result<bool, Error> {
+        Write::exchange(&mut **self, piece)
     }
 }

@@ -1,5 +1,5 @@
 //! Reads and writes that go on until all is done.
-ghost use Rattle.std.specs.Prelude.{◌≡◌, ◌≢◌, ◌+◌, ◌≤◌, ◌<◌, IsTrue, length, vec_len, vec_capacity, All, IfOk, OnOk, IfErr, OnErr, Ok, Err};
+ghost use Rattle.std.specs.Prelude.{◌≡◌, ◌≢◌, ◌+◌, ◌≤◌, ◌<◌, IsTrue, length, take, vec_len, vec_capacity, All, IfOk, OnOk, IfErr, OnErr, Ok, Err};
 ghost use Rattle.age_error.specs.Refusals.{IsInterruption};
 ghost use Rattle.age_error.specs.declared.io.Error.TheVariants.{OutOfMemory, UnexpectedEof};
 ghost use Rattle.age_io.specs.Reading.{IsQuiet, Delivers, TookSome, IsShort, most_faults};
@@ -131,4 +131,25 @@ pub fn write_all<W: Write>(writer: &mut W, bytes: &[u8]) -> Result<(), Error>
         }
     }
     Ok(())
+}
+
+/// Writes the first `count` bytes of `piece` as `write_all` does. Where these are all, the writer may take them by an exchange
+/// (`Write::exchange`): of `piece` then only the length stays.
+pub(crate) fn write_front<W: Write>(
+    writer: &mut W,
+    piece: &mut Vec<u8>,
+    count: usize,
+) -> Result<(), Error>
+    requires { count ≤ length piece.old.items }
+    ensures writes { WritesAll W.tells W.faults (Retried W.refuses) W.appended writer.old writer.new (take count piece.old.items) result }
+    ensures size { length piece.new.items ≡ length piece.old.items }
+{
+    if count == piece.len() {
+        match writer.exchange(piece) {
+            Ok(true) => return Ok(()),
+            Ok(false) => {}
+            Err(refused) => return Err(refused),
+        }
+    }
+    write_all(writer, &piece[..count])
 }

@@ -1,6 +1,6 @@
 -- The laws of a `StreamWriter`.
 use Rattle.std.specs.Prelude.{◌≡◌, ℕ, zero, suc, ◌+◌, ◌-◌, ◌*◌, ◌^◌, ◌≤◌, ◌<◌, ◌⊎◌, Bool, true, false, List, [], ◌++◌, length, take, drop}
-use Rattle.std.proofs.Common.{refl, sym, ap, ◌∙◌, inl, inr, arith, zero-add, add-zero, append_assoc, length-append, length-drop, subst}
+use Rattle.std.proofs.Common.{refl, sym, ap, ◌∙◌, inl, inr, arith, zero-add, add-zero, append_assoc, length-append, length-drop, subst, take_at}
 use Rattle.std.proofs.lemmas.Bool.{true≢false, cases_lt}
 use Rattle.std.proofs.lemmas.List.{append-nil, drop_at, take_all, take-append-le, drop-append-le, drop-drop}
 use Rattle.age_error.specs.Refusals.{IsInterruption}
@@ -119,20 +119,18 @@ module _ {S W : Type 0} (seal_of : Seal) (inner_appended : W → List ℕ → W 
             omega (arith, left, none)
       ])
 
-  -- a full piece that is held goes out as a middle chunk
-  pub Sent-held : (a c : StreamWriter S W) → length a.held.items ≡ 65536 → c.key ≡ a.key → c.held.items ≡ [] → c.sealed ≡ a.sealed + 1 →
-      inner_appended a.inner (seal_of a.key (chunk_nonce a.sealed false) a.held.items) c.inner → Sent seal_of inner_appended a [] c
-  Sent-held a c full key held sealed sent =
-      let t : a.held.items ++ [] ≡ a.held.items = append-nil a.held.items in
-      let one : take 65536 a.held.items ≡ a.held.items = take_all 65536 a.held.items (omega (arith, full)) in
-      let none : drop 65536 a.held.items ≡ [] = ap (drop 65536) (sym t) ∙ drop_at a.held.items [] 65536 full in
+  -- a full piece that is held goes out as a middle chunk, and what it is given is held in its place
+  pub Sent-held : (a c : StreamWriter S W) (x : List ℕ) → length a.held.items ≡ 65536 → c.key ≡ a.key → c.held.items ≡ x → c.sealed ≡ a.sealed + 1 →
+      inner_appended a.inner (seal_of a.key (chunk_nonce a.sealed false) a.held.items) c.inner → Sent seal_of inner_appended a x c
+  Sent-held a c x full key held sealed sent =
+      let one : take 65536 (a.held.items ++ x) ≡ a.held.items = take_at a.held.items x 65536 full in
       record {
         count = 1;
-        fits = rw t (omega (arith, full));
+        fits = omega (arith, full, length-append a.held.items x);
         same_key = key;
         sealed = sealed;
-        held = held ∙ rw t (sym none);
-        sent = rw (t, one, append-nil) sent;
+        held = held ∙ sym (drop_at a.held.items x 65536 full);
+        sent = rw (one, append-nil) sent;
       }
 
   -- a full piece goes out as a middle chunk, where nothing is held

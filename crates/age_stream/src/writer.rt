@@ -7,12 +7,13 @@ ghost use Rattle.age_stream.specs.Sending.{RefusesChunk};
 ghost use Rattle.age_v1.specs.Payload.{chunk_nonce};
 
 use crate::nonce::nonce_of;
-use crate::sizes::PIECE;
+use crate::sizes::{MOST_CHUNKS, PIECE};
 use age_error::io::Error;
 use age_io::{Write, write_all};
 use age_suite::suite::Suite;
 use std::alloc::Global;
 use std::marker::PhantomData;
+use std::mem;
 
 /// Memory for the chunk that a `StreamWriter` holds, for one who writes to the inner writer before and wants to be sure
 /// of the memory first.
@@ -155,6 +156,40 @@ impl<S: Suite, W: Write> StreamWriter<S, W> {
         ensures inner { KeepsWriter W.tells W.faults (RefusesChunk W.refuses) self.old.inner self.new.inner result }
     {
         self.held.extend_from_slice(bytes)?;
+        Ok(())
+    }
+
+    // Whether it holds a piece and may take these bytes as the next.
+    pub(crate) fn can_exchange(&self, bytes: &[u8]) -> bool
+        ensures good { IsTrue result → self.now.failed ≡ false }
+        ensures full { IsTrue result → (held_len self.now ≡ 65536) × (length bytes.now ≡ 65536) }
+        ensures room { IsTrue result → taken_len self.now + 65536 ≤ 2 ^ 60 }
+    {
+        let are_full = self.held.len() == PIECE && bytes.len() == PIECE;
+        !self.failed && are_full && self.sealed + 1 < MOST_CHUNKS
+    }
+
+    // Seals the piece that is held, and holds the one that is given in its place.
+    pub(crate) fn exchange_held(&mut self, piece: &mut Vec<u8>) -> Result<(), Error>
+        requires full { (held_len self.old ≡ 65536) × (length piece.old.items ≡ 65536) }
+        requires room { taken_len self.old + 65536 ≤ 2 ^ 60 }
+        ensures size { length piece.new.items ≡ length piece.old.items }
+        ensures total { OnOk result (taken_len self.new ≡ taken_len self.old + length piece.old.items) }
+        ensures took { IsTrue (W.tells self.old.inner) → OnOk result (Took S.seal_of W.appended self.old piece.old.items self.new) }
+        ensures front { IsTrue (W.tells self.old.inner) → OnErr result (SendsFront S.seal_of W.appended self.old piece.old.items self.new.inner) }
+        ensures failed { self.new.failed ≡ self.old.failed }
+        ensures inner { KeepsWriter W.tells W.faults (RefusesChunk W.refuses) self.old.inner self.new.inner result }
+    {
+        write_chunk::<S, W>(
+            self.alloc,
+            &mut self.inner,
+            &self.key,
+            self.sealed,
+            false,
+            &self.held,
+        )?;
+        mem::swap(&mut self.held, piece);
+        self.sealed += 1;
         Ok(())
     }
 

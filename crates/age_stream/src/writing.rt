@@ -90,4 +90,19 @@ impl<S: Suite, W: Write> Write for StreamWriter<S, W> {
             }
         }
     }
+
+    /// Takes a whole piece, 65,536 bytes, where one is held already: that is sealed and sent, and the new one is held in its
+    /// place, without a copy. Else it answers false.
+    fn exchange(&mut self, piece: &mut Vec<u8>) -> Result<bool, Error> {
+        if !self.can_exchange(piece) {
+            return Ok(false);
+        }
+        match self.exchange_held(piece) {
+            Ok(()) => Ok(true),
+            Err(refused) => {
+                self.failed = true;
+                Err(refused)
+            }
+        }
+    }
 }

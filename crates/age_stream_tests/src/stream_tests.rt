@@ -3,7 +3,7 @@
 ghost use Rattle.std.specs.Prelude.{◌<◌};
 
 use crate::fixtures::{SECOND_AS_LAST, reader_of};
-use age::io::{Bytes, Error, Read, Write, read_to_end};
+use age::io::{Bytes, Error, Read, Write, copy_all, read_to_end};
 use age::stream::StreamWriter;
 use age::suite::{Opens, Suite};
 use age_bench::suite::BenchSuite;
@@ -149,6 +149,60 @@ fn how_a_plaintext_is_cut_into_writes_is_not_seen(rt: HostRuntime) -> Result<(),
             both_are_written_in_pieces(alloc, &plain, piece)?,
             "in pieces of {piece}"
         );
+    }
+    Ok(())
+}
+
+// The payload of a plaintext that is copied: the writer takes each whole piece but the first by an exchange of memory.
+fn copied<S: Suite>(alloc: Global, plain: &[u8]) -> Result<Vec<u8>, Error> {
+    let mut writer = StreamWriter::<S, Vec<u8>>::with_payload_key(alloc, KEY, Vec::new(alloc))?;
+    copy_all(alloc, &mut Bytes::new(plain), &mut writer)?;
+    writer.finish()
+}
+
+#[test]
+fn a_copied_plaintext_has_its_payload(rt: HostRuntime) -> Result<(), Fail> {
+    let alloc = rt.alloc();
+    let plain = plaintext(alloc, 131_072)?;
+    assert!(rt;
+        is_known(
+            &copied::<BenchSuite>(alloc, &plain)?,
+            131_104,
+            0x5f42_35d1_0738_d687
+        )
+    );
+    assert!(rt;
+        is_known(
+            &copied::<OtherSuite>(alloc, &plain)?,
+            131_104,
+            0x81c2_3405_d713_853f
+        )
+    );
+    Ok(())
+}
+
+// Whether a writer that was given so many bytes takes a piece of that length by an exchange.
+fn exchanges(alloc: Global, given: usize, length: usize) -> Result<bool, Fail> {
+    let mut writer = StreamWriter::<BenchSuite, Vec<u8>>::with_payload_key(
+        alloc,
+        KEY,
+        Vec::new(alloc),
+    )?;
+    writer.write(&plaintext(alloc, given)?)?;
+    Ok(writer.exchange(&mut plaintext(alloc, length)?)?)
+}
+
+#[test]
+fn a_whole_piece_is_exchanged_for_the_one_that_is_held(rt: HostRuntime) -> Result<(), Fail> {
+    let alloc = rt.alloc();
+    assert!(rt; exchanges(alloc, 65_536, 65_536)?);
+    for (given, length) in [
+        (0, 65_536),
+        (65_535, 65_536),
+        (65_536, 65_535),
+        (65_536, 65_537),
+    ] {
+        assert!(rt; !exchanges(alloc, given, length)?, "{given} and {length}");
     }
     Ok(())
 }

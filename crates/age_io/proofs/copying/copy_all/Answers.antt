@@ -1,4 +1,4 @@
-use Rattle.std.proofs.Common.{rules, ◌≡◌, ◌+◌, ◌<◌, ◌≤◌, IsTrue, ◌∙◌, refl, ap, subst, arith, length, length-append, take, inl, inr}
+use Rattle.std.proofs.Common.{◌≡◌, ◌+◌, ◌<◌, ◌≤◌, IsTrue, ◌∙◌, refl, ap, subst, arith, length, length-append, take, inl, inr}
 use Rattle.std.specs.Prelude.{⊤}
 use Rattle.age_error.specs.Refusals.{IsDevice}
 use Rattle.age_io.specs.Writing.{Retried}
@@ -49,7 +49,7 @@ loop-piece-preserved g c =
     let before = c.loop-piece.invariant in
     let room = c.loop-piece.room in
     let reads = c.in_ok-count.ensures.reads in
-    let writes = c.in_ok-write_all.ensures.writes in
+    let writes = c.in_ok-write_front.ensures.writes in
     let size : length c.read_retrying.new.buf ≡ length room.items = omega (arith, c.read_retrying.auto.buf, c.deref_mut.ensures.len, room.ok.0) in
     let filled = refilled room.items c.read_retrying.new.buf room.len room.ok.0 size in
     record {
@@ -61,17 +61,17 @@ loop-piece-preserved g c =
             (λ reader_told.
                 let size = ap length (reads.bytes (before.copied.gives.same_tells ∙ reader_told)).bytes in
                 omega (arith, joined reader_told, size, length-append piece (read.rest c.read_retrying.new.reader).bytes)),
-            narrows-both (Retried g.W.Write.refuses) c.args.writer.now c.loop-piece.writer c.write_all.new.writer given (length piece) narrows
-                (rw (c.deref.ensures.value, filled) at writes.narrows),
+            narrows-both (Retried g.W.Write.refuses) c.args.writer.now c.loop-piece.writer c.write_front.new.writer given (length piece) narrows
+                (rw filled at writes.narrows),
           );
       writer_faults = omega (arith, before.writer_faults, writes.no_fewer_faults);
       pieces = λ reader_told. omega (arith, before.pieces reader_told, reads.moves (before.copied.gives.same_tells ∙ reader_told), c.if-count-eq0.false);
-      room = rw filled (omega (arith, size, before.room));
+      room = let same = rw filled at c.in_ok-write_front.ensures.size in omega (arith, same, size, before.room);
       copied =
           copied-more read g.W.Write.tells g.W.Write.appended g.met.W.Write.joins
-          c.args.reader.now c.loop-piece.reader c.read_retrying.new.reader c.args.writer.now c.loop-piece.writer c.write_all.new.writer
+          c.args.reader.now c.loop-piece.reader c.read_retrying.new.reader c.args.writer.now c.loop-piece.writer c.write_front.new.writer
           c.read_retrying.new.buf c.in_ok-count.count before.copied reads
-          (λ told. rw (c.deref.ensures.value, filled) at (writes.takes_all (before.writer_tells ∙ told)));
+          (λ told. rw filled at (writes.takes_all (before.writer_tells ∙ told)));
     }
 
 pub returns-in_err-count : goal.returns-in_err-count
@@ -101,23 +101,23 @@ returns-in_err-count g c =
       no_fewer_faults = before.writer_faults;
     }
 
-pub returns-in_err-write_all : goal.returns-in_err-write_all
-returns-in_err-write_all g c =
+pub returns-in_err-write_front : goal.returns-in_err-write_front
+returns-in_err-write_front g c =
     let read = g.R.Read in
     let before = c.loop-piece.invariant in
     let room = c.loop-piece.room in
     let reads = c.in_ok-count.ensures.reads in
-    let writes = c.in_err-write_all.ensures.writes in
-    let e = c.in_err-write_all.field-0.0 in
-    let refused = c.from_residual-in_err-write_all.ensures.0 in
-    let is = c.from_residual-in_err-write_all.ensures.1 in
+    let writes = c.in_err-write_front.ensures.writes in
+    let e = c.in_err-write_front.field-0.0 in
+    let refused = c.from_residual-in_err-write_front.ensures.0 in
+    let is = c.from_residual-in_err-write_front.ensures.1 in
     let size : length c.read_retrying.new.buf ≡ length room.items = omega (arith, c.read_retrying.auto.buf, c.deref_mut.ensures.len, room.ok.0) in
     let filled = refilled room.items c.read_retrying.new.buf room.len room.ok.0 size in
     let refuses = Retried g.W.Write.refuses in
     let piece = take c.in_ok-count.count c.read_retrying.new.buf in
     let (given, joined, narrows) = before.given in
-    let why : refuses c.loop-piece.writer (length piece) e = rw (c.deref.ensures.value, filled) at writes.why in
-    let took = λ (told : IsTrue (g.W.Write.tells c.args.writer.now)). rw (c.deref.ensures.value, filled) at (writes.takes_front (before.writer_tells ∙ told)) in
+    let why : refuses c.loop-piece.writer (length piece) e = rw filled at writes.why in
+    let took = λ (told : IsTrue (g.W.Write.tells c.args.writer.now)). rw filled at (writes.takes_front (before.writer_tells ∙ told)) in
     -- what it refuses of this piece it may refuse of all that the reader had
     let of_all : IsTrue (read.tells c.args.reader.now) → refuses c.args.writer.now (length (read.rest c.args.reader.now).bytes) e = λ told.
     let came = reads.bytes (before.copied.gives.same_tells ∙ told) in
@@ -130,11 +130,11 @@ returns-in_err-write_all g c =
       all = λ told writer_told. OnOk-refused _ _ refused;
       front = λ told writer_told.
           front-more read g.W.Write.tells g.W.Write.appended g.met.W.Write.joins
-          c.args.reader.now c.loop-piece.reader c.read_retrying.new.reader c.args.writer.now c.loop-piece.writer c.write_all.new.writer
+          c.args.reader.now c.loop-piece.reader c.read_retrying.new.reader c.args.writer.now c.loop-piece.writer c.write_front.new.writer
           c.read_retrying.new.buf c.in_ok-count.count (took writer_told).0 before.copied reads told writer_told (took writer_told).2;
       stands = OnOk-refused _ _ refused;
       left = OnErr-of _ (left-by-write read g.W.Write.tells g.W.Write.appended (λ _. ⊤) g.met.W.Write.joins
-          before.copied.front c.args.reader.now c.loop-piece.reader c.read_retrying.new.reader c.args.writer.now c.loop-piece.writer c.write_all.new.writer
+          before.copied.front c.args.reader.now c.loop-piece.reader c.read_retrying.new.reader c.args.writer.now c.loop-piece.writer c.write_front.new.writer
           c.read_retrying.new.buf c.in_ok-count.count tt before.copied.gives before.copied.out reads took);
       device = of_error _ _ _ is (λ fault. inr (omega (arith, before.writer_faults, writes.device fault)));
       why = λ told well quiet. of_error _ _ _ is (inr (of_all told));
@@ -175,6 +175,10 @@ returns-then-count-eq0 g c =
 pub returns : goal.returns
 returns g c =
     let before = c.loop-piece.invariant in
+    -- no reader that tells its bytes has so many pieces
+    let never : IsTrue (g.R.Read.tells c.args.reader.now) → ⊥ = λ told.
+    let fits = g.met.R.Read.place_fits c.loop-piece.reader (before.copied.gives.same_tells ∙ told) in
+    omega (arith, before.pieces told, fits, c.loop-piece-test.false) in
     record {
       tells = before.writer_tells;
       all = λ told writer_told. tt;
@@ -188,6 +192,6 @@ returns g c =
           left-between g.R.Read g.W.Write.tells g.W.Write.appended (λ _. ⊤)
           c.args.reader.now c.loop-piece.reader c.args.writer.now c.loop-piece.writer before.copied tt;
       device = λ fault. absurd fault;
-      why = search rules;
-      named = search rules;
+      why = λ told well quiet. absurd (never told);
+      named = inr (refl, never);
     }

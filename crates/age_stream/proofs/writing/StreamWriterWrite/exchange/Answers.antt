@@ -1,0 +1,44 @@
+use Rattle.std.proofs.Common.{arith, inl, inr, refl, ◌∙◌, length}
+use Rattle.std.proofs.lemmas.List.{take_all}
+use Rattle.age_io.specs.WritingLemmas.{retried-narrows}
+use Rattle.age_stream.specs.SendingLemmas.{refuses-chunk-patient}
+use Rattle.age_stream.specs.Writing.{Refused}
+use Rattle.age_stream.specs.WritingLemmas.{Refused-narrows}
+use Rattle.age_stream.proofs.writing.StreamWriterWrite.exchange.Goals as goal
+
+pub returns-in-Ok-clause-takes : goal.returns-in-Ok-clause-takes
+returns-in-Ok-clause-takes g c = λ _.
+    let took = c.in-Ok.ensures in
+    let writer = c.args.self.now in
+    let after = c.exchange_held.new.self in
+    let good = c.can_exchange.ensures.good c.if-not-can_exchange.false in
+    record {
+      same_tells = took.inner.same_tells;
+      no_fewer_faults = took.inner.no_fewer_faults;
+      device = tt;
+      why = tt;
+      narrows = retried-narrows (Refused g.W.Write.refuses) writer after _
+          (Refused-narrows g.W.Write.refuses writer after _ good (took.failed ∙ good) took.total took.inner.narrows);
+      takes_all = λ told. inr (inr (good, took.failed ∙ good, took.took told));
+      takes_front = λ told. tt;
+    }
+
+-- it failed: a beginning of what is due for the piece went out
+pub returns-in-Err-clause-takes : goal.returns-in-Err-clause-takes
+returns-in-Err-clause-takes g c = λ _.
+    let refused = c.in-Err.ensures in
+    let piece = c.args.piece.now.items in
+    let good = c.can_exchange.ensures.good c.if-not-can_exchange.false in
+    record {
+      same_tells = refused.inner.same_tells;
+      no_fewer_faults = refused.inner.no_fewer_faults;
+      device = refused.inner.device;
+      why = inl (refuses-chunk-patient g.W.Write.refuses c.args.self.now.inner _ refused.inner.why, inr (good, inr refused.inner.why));
+      narrows = tt;
+      takes_all = λ told. tt;
+      takes_front = λ told. (
+        length piece,
+        omega arith,
+        rw (take_all (length piece) piece (omega arith)) (inr (inl (record { good = good; failed = refl; sends = refused.front told }))),
+      );
+    }
