@@ -9,17 +9,17 @@ use Rattle.age_format.proofs.state.judge_body.Goals as goal
 pub returns-in_default : goal.returns-in_default
 returns-in_default c = λ text h lacks none.
     bad_body c.args.legacy text c.args.next.now c.args.stanza c.args.done.items h.read lacks none h.goes
-    (λ b each small told. (rw c.in_default.is at c.in_ok-bytes.ensures) b each told)
+    (λ b each small told. (rw c.in_default.is at c.in_ok-bytes.ensures.found) b each told)
 
 pub returns-then-len-gt48 : goal.returns-then-len-gt48
 returns-then-len-gt48 c = λ text h lacks none.
-    let found = (rw c.in-Some.is at c.in_ok-bytes.ensures) in
+    let found = (rw c.in-Some.is at c.in_ok-bytes.ensures.found) in
     bad_body c.args.legacy text c.args.next.now c.args.stanza c.args.done.items h.read lacks none h.goes
     (too_long c.in-Some.bytes.items c.args.next.now found.0 found.1 (search rules))
 
 pub returns-then-len-eq48 : goal.returns-then-len-eq48
 returns-then-len-eq48 c = λ text h lacks none.
-    let found = (rw c.in-Some.is at c.in_ok-bytes.ensures) in
+    let found = (rw c.in-Some.is at c.in_ok-bytes.ensures.found) in
     let s = c.args.stanza in
     let d = c.args.done.items in
     let r = goes_on_in_body c.args.legacy text c.args.next.now c.in-Some.bytes.items s d h.read lacks none h.goes found.0 found.1 (search rules) in
@@ -28,7 +28,7 @@ returns-then-len-eq48 c = λ text h lacks none.
 
 pub returns : goal.returns
 returns c = λ text h lacks none.
-    let found = (rw c.in-Some.is at c.in_ok-bytes.ensures) in
+    let found = (rw c.in-Some.is at c.in_ok-bytes.ensures.found) in
     let s = c.args.stanza in
     let d = c.args.done.items in
     let r = closes_body c.args.legacy text c.args.next.now c.in-Some.bytes.items s d h.read lacks none h.goes found.0 found.1 (search rules) in
