@@ -105,11 +105,13 @@ abbrev pub with_settings : App → App
 with_settings app =
     record app { top = record app.top { has_version = true; no_binary_name = true; disable_help_subcommand = true } }
 
+-- -e and -d
+abbrev pub with_kinds : App → App
+with_kinds app = with_rule (with_rule app (flag_rule (codes "encrypt") 101)) (flag_rule (codes "decrypt") 100)
+
 -- sazh without a command: -e, -d, and all that `encrypt` and `decrypt` have
 abbrev pub alone : App
-alone =
-    with_rule (with_quiet (with_output (with_opening (with_encrypting (with_rule (with_rule (with_settings (new_app (codes "sazh")))
-    (flag_rule (codes "encrypt") 101)) (flag_rule (codes "decrypt") 100)))))) input_rule
+alone = with_rule (with_quiet (with_output (with_opening (with_encrypting (with_kinds (with_settings (new_app (codes "sazh")))))))) input_rule
 
 -- the program
 abbrev pub sazh : App

@@ -1,6 +1,7 @@
 //! The program's command line, as `clap` is told of it: the commands, and the options and operands of each.
-ghost use Rattle.std.specs.Prelude.{IfOk};
-ghost use Rattle.sazh_command.specs.App.{IsOption, IsCommand, Extends, text_rule, texts_rule, flag_rule, long_flag_rule, number_rule, input_rule, operands_rule, sazh, alone, keygen, encrypt, decrypt, part, migrate, rekey, verify, inspect, with_encrypting, with_identities, with_passphrase, with_header_limit, with_opening, with_output, with_quiet};
+ghost use Rattle.std.specs.Prelude.{IfOk, codes};
+ghost use Rattle.clap.specs.Simple.{App, new_app, with_subcommand};
+ghost use Rattle.sazh_command.specs.App.{IsOption, IsCommand, Extends, text_rule, texts_rule, flag_rule, long_flag_rule, number_rule, input_rule, operands_rule, sazh, alone, with_settings, with_kinds, keygen, encrypt, decrypt, part, migrate, rekey, verify, inspect, with_encrypting, with_identities, with_passphrase, with_header_limit, with_opening, with_output, with_quiet};
 
 use crate::help::{
     ABOUT, ABOUT_DECRYPT, ABOUT_ENCRYPT, ABOUT_INSPECT, ABOUT_KEYGEN, ABOUT_MIGRATE, ABOUT_PART,
@@ -191,14 +192,27 @@ fn with_quiet<'a>(alloc: Global, command: Command<'a>) -> Result<Command<'a>, Al
     ))
 }
 
+// A command with its texts, and no options yet.
+fn named<'a>(
+    alloc: Global,
+    name: &'a str,
+    about: &'a str,
+    usage: &'a str,
+    after: &'a str,
+) -> Command<'a>
+    ensures { IsCommand (new_app name.now) result }
+{
+    Command::new(alloc, name)
+        .about(about)
+        .override_usage(usage)
+        .after_help(after)
+}
+
 // `keygen`.
 fn keygen<'a>(alloc: Global) -> Result<Command<'a>, AllocError>
     ensures { IfOk result (IsCommand keygen) }
 {
-    let keygen = Command::new(alloc, "keygen")
-        .about(ABOUT_KEYGEN)
-        .override_usage(USAGE_KEYGEN)
-        .after_help(AFTER_KEYGEN);
+    let keygen = named(alloc, "keygen", ABOUT_KEYGEN, USAGE_KEYGEN, AFTER_KEYGEN);
     let to = with_output(alloc, keygen)?;
     with_quiet(alloc, to)?
         .arg(flag(
@@ -214,10 +228,13 @@ fn keygen<'a>(alloc: Global) -> Result<Command<'a>, AllocError>
 fn encrypt<'a>(alloc: Global) -> Result<Command<'a>, AllocError>
     ensures { IfOk result (IsCommand encrypt) }
 {
-    let encrypt = Command::new(alloc, "encrypt")
-        .about(ABOUT_ENCRYPT)
-        .override_usage(USAGE_ENCRYPT)
-        .after_help(AFTER_ENCRYPT);
+    let encrypt = named(
+        alloc,
+        "encrypt",
+        ABOUT_ENCRYPT,
+        USAGE_ENCRYPT,
+        AFTER_ENCRYPT,
+    );
     let to = with_encrypting(alloc, encrypt)?;
     let of = with_identities(alloc, to, "Encrypt to the identities in FILE")?;
     let under = with_passphrase(alloc, of)?;
@@ -229,10 +246,13 @@ fn encrypt<'a>(alloc: Global) -> Result<Command<'a>, AllocError>
 fn decrypt<'a>(alloc: Global) -> Result<Command<'a>, AllocError>
     ensures { IfOk result (IsCommand decrypt) }
 {
-    let decrypt = Command::new(alloc, "decrypt")
-        .about(ABOUT_DECRYPT)
-        .override_usage(USAGE_DECRYPT)
-        .after_help(AFTER_DECRYPT);
+    let decrypt = named(
+        alloc,
+        "decrypt",
+        ABOUT_DECRYPT,
+        USAGE_DECRYPT,
+        AFTER_DECRYPT,
+    );
     let with = with_opening(alloc, decrypt, WITH)?;
     let out = with_output(alloc, with)?;
     with_quiet(alloc, out)?.arg(input(alloc))
@@ -242,10 +262,7 @@ fn decrypt<'a>(alloc: Global) -> Result<Command<'a>, AllocError>
 fn part<'a>(alloc: Global) -> Result<Command<'a>, AllocError>
     ensures { IfOk result (IsCommand part) }
 {
-    let part = Command::new(alloc, "part")
-        .about(ABOUT_PART)
-        .override_usage(USAGE_PART)
-        .after_help(AFTER_PART);
+    let part = named(alloc, "part", ABOUT_PART, USAGE_PART, AFTER_PART);
     let with = with_opening(alloc, part, WITH)?;
     with_quiet(alloc, with)?
         .arg(number_option(
@@ -267,10 +284,13 @@ fn part<'a>(alloc: Global) -> Result<Command<'a>, AllocError>
 fn migrate<'a>(alloc: Global) -> Result<Command<'a>, AllocError>
     ensures { IfOk result (IsCommand migrate) }
 {
-    let migrate = Command::new(alloc, "migrate")
-        .about(ABOUT_MIGRATE)
-        .override_usage(USAGE_MIGRATE)
-        .after_help(AFTER_MIGRATE);
+    let migrate = named(
+        alloc,
+        "migrate",
+        ABOUT_MIGRATE,
+        USAGE_MIGRATE,
+        AFTER_MIGRATE,
+    );
     let with = with_opening(alloc, migrate, WITH)?;
     let out = with_output(alloc, with)?;
     with_quiet(alloc, out)?.arg(input(alloc))
@@ -280,10 +300,7 @@ fn migrate<'a>(alloc: Global) -> Result<Command<'a>, AllocError>
 fn rekey<'a>(alloc: Global) -> Result<Command<'a>, AllocError>
     ensures { IfOk result (IsCommand rekey) }
 {
-    let rekey = Command::new(alloc, "rekey")
-        .about(ABOUT_REKEY)
-        .override_usage(USAGE_REKEY)
-        .after_help(AFTER_REKEY);
+    let rekey = named(alloc, "rekey", ABOUT_REKEY, USAGE_REKEY, AFTER_REKEY);
     let to = with_encrypting(alloc, rekey)?;
     let with = with_opening(alloc, to, WITH)?;
     let out = with_output(alloc, with)?;
@@ -294,10 +311,7 @@ fn rekey<'a>(alloc: Global) -> Result<Command<'a>, AllocError>
 fn verify<'a>(alloc: Global) -> Result<Command<'a>, AllocError>
     ensures { IfOk result (IsCommand verify) }
 {
-    let verify = Command::new(alloc, "verify")
-        .about(ABOUT_VERIFY)
-        .override_usage(USAGE_VERIFY)
-        .after_help(AFTER_VERIFY);
+    let verify = named(alloc, "verify", ABOUT_VERIFY, USAGE_VERIFY, AFTER_VERIFY);
     let with = with_opening(alloc, verify, WITH)?;
     with_quiet(alloc, with)?.arg(input(alloc))
 }
@@ -306,10 +320,13 @@ fn verify<'a>(alloc: Global) -> Result<Command<'a>, AllocError>
 fn inspect<'a>(alloc: Global) -> Result<Command<'a>, AllocError>
     ensures { IfOk result (IsCommand inspect) }
 {
-    let inspect = Command::new(alloc, "inspect")
-        .about(ABOUT_INSPECT)
-        .override_usage(USAGE_INSPECT)
-        .after_help(AFTER_INSPECT);
+    let inspect = named(
+        alloc,
+        "inspect",
+        ABOUT_INSPECT,
+        USAGE_INSPECT,
+        AFTER_INSPECT,
+    );
     with_opening(
         alloc,
         inspect,
@@ -319,24 +336,38 @@ fn inspect<'a>(alloc: Global) -> Result<Command<'a>, AllocError>
     .arg(input(alloc))
 }
 
-// The program without a command.
-fn alone<'a>(alloc: Global) -> Result<Command<'a>, AllocError>
-    ensures { IfOk result (IsCommand alone) }
+// The program's name, texts and settings.
+fn titled<'a>(alloc: Global) -> Command<'a>
+    ensures { IsCommand (with_settings (new_app (codes "sazh"))) result }
 {
-    let program = Command::new(alloc, "sazh")
+    Command::new(alloc, "sazh")
         .version(VERSION)
         .about(ABOUT)
         .override_usage(USAGE_TOP)
         .after_help(AFTER_TOP)
         .no_binary_name(true)
         .disable_help_subcommand(true)
+}
+
+// The options that say which of the two is done without a command.
+fn with_kinds<'a>(alloc: Global, command: Command<'a>) -> Result<Command<'a>, AllocError>
+    ensures { IfOk result (Extends with_kinds command.entry) }
+{
+    command
         .arg(flag(
             alloc,
             "encrypt",
             'e',
             "Encrypt, which is done where -d isn't given",
         ))?
-        .arg(flag(alloc, "decrypt", 'd', "Decrypt"))?;
+        .arg(flag(alloc, "decrypt", 'd', "Decrypt"))
+}
+
+// The program without a command.
+fn alone<'a>(alloc: Global) -> Result<Command<'a>, AllocError>
+    ensures { IfOk result (IsCommand alone) }
+{
+    let program = with_kinds(alloc, titled(alloc))?;
     let to = with_encrypting(alloc, program)?;
     let with = with_opening(
         alloc,
@@ -347,17 +378,26 @@ fn alone<'a>(alloc: Global) -> Result<Command<'a>, AllocError>
     with_quiet(alloc, out)?.arg(input(alloc))
 }
 
+// A program with one command more, where both could be made.
+fn with_command<'a>(
+    program: Result<Command<'a>, AllocError>,
+    command: Result<Command<'a>, AllocError>,
+) -> Result<Command<'a>, AllocError>
+    ensures { (app below : App) → IfOk program.entry (IsCommand app) → IfOk command.entry (IsCommand below) → IfOk result (IsCommand (with_subcommand app below.top)) }
+{
+    program?.subcommand(command?)
+}
+
 /// The program with its commands. Its words are those after the program's name.
 pub fn sazh<'a>(alloc: Global) -> Result<Command<'a>, AllocError>
     ensures { IfOk result (IsCommand sazh) }
 {
-    alone(alloc)?
-        .subcommand(keygen(alloc)?)?
-        .subcommand(encrypt(alloc)?)?
-        .subcommand(decrypt(alloc)?)?
-        .subcommand(part(alloc)?)?
-        .subcommand(migrate(alloc)?)?
-        .subcommand(rekey(alloc)?)?
-        .subcommand(verify(alloc)?)?
-        .subcommand(inspect(alloc)?)
+    let keys = with_command(alone(alloc), keygen(alloc));
+    let to = with_command(keys, encrypt(alloc));
+    let of = with_command(to, decrypt(alloc));
+    let some = with_command(of, part(alloc));
+    let old = with_command(some, migrate(alloc));
+    let again = with_command(old, rekey(alloc));
+    let whole = with_command(again, verify(alloc));
+    with_command(whole, inspect(alloc))
 }

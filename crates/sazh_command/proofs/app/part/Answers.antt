@@ -1,7 +1,6 @@
 use Rattle.std.specs.Prelude.{codes}
-use Rattle.std.proofs.Common.{rules}
 use Rattle.clap.specs.Simple.{with_rule, new_app}
-use Rattle.sazh_command.specs.App.{IsCommand, number_rule, operands_rule, with_opening, with_quiet}
+use Rattle.sazh_command.specs.App.{number_rule, operands_rule, with_opening, with_quiet}
 use Rattle.sazh_command.proofs.Apps.{with_more, with_option, with_options}
 use Rattle.sazh_command.proofs.app.part.Goals as goal
 
@@ -10,8 +9,7 @@ returns c =
     let bare = new_app (codes "part") in
     let from = number_rule (codes "from") in
     let count = number_rule (codes "count") in
-    let bare_is : IsCommand bare c.after_help-part.result = search rules in
-    let with = with_more with_opening bare _ c.in_ok-with.with bare_is c.in_ok-with.ensures in
+    let with = with_more with_opening bare _ c.in_ok-with.with c.named-part.ensures c.in_ok-with.ensures in
     let quiet = with_more with_quiet (with_opening bare) _ c.in_ok-with_quiet.field-0 with c.in_ok-with_quiet.ensures in
     let app = with_quiet (with_opening bare) in
     let first = with_option app _ c.in_ok-arg.field-0 c.number_option.result from quiet c.number_option.ensures c.in_ok-arg.ensures in

@@ -1,15 +1,13 @@
 use Rattle.std.specs.Prelude.{codes}
-use Rattle.std.proofs.Common.{rules}
 use Rattle.clap.specs.Simple.{new_app}
-use Rattle.sazh_command.specs.App.{IsCommand, input_rule, with_encrypting, with_opening, with_output, with_quiet}
+use Rattle.sazh_command.specs.App.{input_rule, with_encrypting, with_opening, with_output, with_quiet}
 use Rattle.sazh_command.proofs.Apps.{with_more, with_options}
 use Rattle.sazh_command.proofs.app.rekey.Goals as goal
 
 pub returns : goal.returns
 returns c =
     let bare = new_app (codes "rekey") in
-    let bare_is : IsCommand bare c.after_help-rekey.result = search rules in
-    let to = with_more with_encrypting bare _ c.in_ok-to.to bare_is c.in_ok-to.ensures in
+    let to = with_more with_encrypting bare _ c.in_ok-to.to c.named-rekey.ensures c.in_ok-to.ensures in
     let with = with_more with_opening (with_encrypting bare) _ c.in_ok-with.with to c.in_ok-with.ensures in
     let out = with_more with_output (with_opening (with_encrypting bare)) _ c.in_ok-out.out with c.in_ok-out.ensures in
     let quiet = with_more with_quiet (with_output (with_opening (with_encrypting bare))) _ c.in_ok-with_quiet.field-0 out
