@@ -1,5 +1,5 @@
 -- What a `StreamWriter` has taken, and what it sent to its inner writer.
-use Rattle.std.specs.Prelude.{◌≡◌, ℕ, zero, suc, ◌+◌, ◌*◌, ◌^◌, ◌≤◌, ◌<◌, ◌⊎◌, true, false, List, [], ◌++◌, length, take, drop, vec_len, Result, IfErr, IfOk, IsOk, OnErr, OnOk, Err, codes}
+use Rattle.std.specs.Prelude.{◌≡◌, ◌≢◌, Bool, ℕ, zero, suc, ◌+◌, ◌*◌, ◌^◌, ◌≤◌, ◌<◌, ◌⊎◌, true, false, List, [], ◌++◌, length, take, drop, vec_len, Result, IfErr, IfOk, IsOk, OnErr, OnOk, Ok, Err, codes}
 use Rattle.std.specs.Fmt.{decimal}
 use Rattle.age_error.specs.declared.io.Error.{Error}
 use Rattle.age_error.specs.declared.io.Error.TheVariants.{Failed, TooLong}
@@ -80,6 +80,17 @@ pub record TakesAll {S W : Type 0} (old new : StreamWriter S W) (bytes : List �
   pub good : OnOk result (IsGood old × IsGood new)
   pub finds_room : IsGood old → held_len old + length bytes ≤ 65536 → taken_len old + length bytes ≤ 2 ^ 60 →
       IsOk result × (held_len new ≡ held_len old + length bytes) × (inner_of new ≡ inner_of old)
+
+-- it holds a whole piece, and may take these bytes, a whole piece too, as the next
+abbrev pub CanExchange : {S W : Type 0} → StreamWriter S W → List ℕ → Type 0
+CanExchange writer bytes = IsGood writer × (held_len writer ≡ 65536) × (length bytes ≡ 65536) × (taken_len writer + length bytes ≤ 2 ^ 60)
+
+-- What an exchange took: the piece, where it can. Where that can't be sent the writer is failed.
+pub record TakesPiece {S W : Type 0} (old new : StreamWriter S W) (piece : List ℕ) (result : Result Bool Error) : Type 0 where
+  pub can : result ≢ Ok false → CanExchange old piece
+  pub must : CanExchange old piece → result ≢ Ok false
+  pub counts : result ≡ Ok true → (taken_len new ≡ taken_len old + length piece) × (held_len new ≡ 65536) × IsGood new
+  pub fails : OnErr result (IsFailed new)
 
 -- What a refused write leaves: past the limit all is as it was, and so it is where the writer had failed; any other refusal fails it.
 pub record FailsWriting {S W : Type 0} (old new : StreamWriter S W) (bytes : List ℕ) (result : Result ℕ Error) : Type 0 where

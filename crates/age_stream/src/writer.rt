@@ -56,7 +56,7 @@ pub struct StreamWriter<S, W> {
 }
 
 impl<S: Suite, W: Write> StreamWriter<S, W> {
-    ghost use Rattle.age_stream.specs.Writing.{HoldsMore, TakesSome, WasMade, Sent, Took, SendsFront, taken_len, held_len};
+    ghost use Rattle.age_stream.specs.Writing.{CanExchange, HoldsMore, TakesSome, WasMade, Sent, Took, SendsFront, taken_len, held_len};
 
     /// A writer that has taken nothing. The payload begins where `inner` stands.
     ///
@@ -164,6 +164,7 @@ impl<S: Suite, W: Write> StreamWriter<S, W> {
         ensures good { IsTrue result → self.now.failed ≡ false }
         ensures full { IsTrue result → (held_len self.now ≡ 65536) × (length bytes.now ≡ 65536) }
         ensures room { IsTrue result → taken_len self.now + 65536 ≤ 2 ^ 60 }
+        ensures must { CanExchange self.now bytes.now → IsTrue result }
     {
         let are_full = self.held.len() == PIECE && bytes.len() == PIECE;
         !self.failed && are_full && self.sealed + 1 < MOST_CHUNKS
@@ -175,6 +176,7 @@ impl<S: Suite, W: Write> StreamWriter<S, W> {
         requires room { taken_len self.old + 65536 ≤ 2 ^ 60 }
         ensures size { length piece.new.items ≡ length piece.old.items }
         ensures total { OnOk result (taken_len self.new ≡ taken_len self.old + length piece.old.items) }
+        ensures held { OnOk result (held_len self.new ≡ 65536) }
         ensures took { IsTrue (W.tells self.old.inner) → OnOk result (Took S.seal_of W.appended self.old piece.old.items self.new) }
         ensures front { IsTrue (W.tells self.old.inner) → OnErr result (SendsFront S.seal_of W.appended self.old piece.old.items self.new.inner) }
         ensures failed { self.new.failed ≡ self.old.failed }

@@ -1,7 +1,8 @@
 //! `Write` for the writer of a payload.
-ghost use Rattle.std.specs.Prelude.{◌≡◌, ◌+◌, ◌^◌, ◌<◌, true, IsTrue, OnOk, OnErr, Err};
+ghost use Rattle.std.specs.Prelude.{◌≡◌, ◌≢◌, ◌+◌, ◌^◌, ◌<◌, true, false, IsTrue, length, IfErr, OnOk, OnErr, Ok, Err};
 ghost use Rattle.age_error.specs.declared.io.Error.TheVariants.{Failed, TooLong};
-ghost use Rattle.age_io.specs.Writing.{Retried, Writes, Flushes};
+ghost use Rattle.age_error.specs.Refusals.{IsInterruption};
+ghost use Rattle.age_io.specs.Writing.{Retried, Writes, WritesAll, Flushes};
 
 use crate::sizes::{LONGEST_PLAINTEXT, PIECE};
 use crate::writer::StreamWriter;
@@ -13,7 +14,7 @@ use age_suite::suite::Suite;
 /// Only `finish` and `close` make its payload whole. A failed writer takes nothing more, and what it sent is a beginning of the payload of what it
 /// was given.
 impl<S: Suite, W: Write> Write for StreamWriter<S, W> {
-    ghost use Rattle.age_stream.specs.Writing.{Appended, Refused, FailsWriting, IsFailed, IsGood, inner_of, taken_len, SendsFront, TakesAll};
+    ghost use Rattle.age_stream.specs.Writing.{Appended, Refused, FailsWriting, IsFailed, IsGood, inner_of, taken_len, SendsFront, TakesAll, TakesPiece};
     ghost use Rattle.age_stream.specs.WritingLemmas.{Appended-nothing, Appended-both, Refused-more};
 
     ghost tells = { λ w. W.tells (inner_of w) };
@@ -91,9 +92,25 @@ impl<S: Suite, W: Write> Write for StreamWriter<S, W> {
         }
     }
 
-    /// Takes a whole piece, 65,536 bytes, where one is held already: that is sealed and sent, and the new one is held in its
-    /// place, without a copy. Else it answers false.
-    fn exchange(&mut self, piece: &mut Vec<u8>) -> Result<bool, Error> {
+    /// Takes a whole piece, 65,536 bytes, where it holds one already and both are within 2^60 bytes of plaintext: seals and
+    /// sends that one, holds the new one in its place, without a copy, and answers true. Else it answers false and
+    /// changes nothing, also where it is failed (`piece`).
+    ///
+    /// A refusal leaves the writer failed. It is that of the inner writer, `WriteZero` where the inner writer took no byte, or
+    /// `OutOfMemory` where the suite was refused memory for the seal. `piece` is as long as before then, and what it holds means
+    /// nothing. Interruptions of the inner writer are retried as by `write_all`.
+    ///
+    /// Whatever it answers, the inner writer was given a beginning of the seal of the piece that was held, and nothing else
+    /// (`sent`).
+    fn exchange(&mut self, piece: &mut Vec<u8>) -> Result<bool, Error>
+        ensures takes { let writer = ⟦<StreamWriter<S, W> as Write>⟧ in result ≢ Ok false →
+            WritesAll writer.tells writer.faults (Retried writer.refuses) writer.appended self.old self.new piece.old.items result }
+        ensures none { result ≡ Ok false → (self.new ≡ self.old) × (piece.new.items ≡ piece.old.items) }
+        ensures size { length piece.new.items ≡ length piece.old.items }
+        ensures patient { IfErr result (λ e. IsInterruption e → ⊥) }
+        ensures piece { TakesPiece self.old self.new piece.old.items result }
+        ensures sent { IsTrue (W.tells (inner_of self.old)) → SendsFront S.seal_of W.appended self.old piece.old.items (inner_of self.new) }
+    {
         if !self.can_exchange(piece) {
             return Ok(false);
         }

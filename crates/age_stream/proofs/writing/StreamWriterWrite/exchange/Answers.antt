@@ -1,9 +1,10 @@
-use Rattle.std.proofs.Common.{arith, inl, inr, refl, ◌∙◌, length}
+use Rattle.std.proofs.Common.{◌≡◌, arith, inl, inr, refl, ◌∙◌, length}
 use Rattle.std.proofs.lemmas.List.{take_all}
 use Rattle.age_io.specs.WritingLemmas.{retried-narrows}
 use Rattle.age_stream.specs.SendingLemmas.{refuses-chunk-patient}
 use Rattle.age_stream.specs.Writing.{Refused}
 use Rattle.age_stream.specs.WritingLemmas.{Refused-narrows}
+use Rattle.age_stream.proofs.Sent.{sends-taken}
 use Rattle.age_stream.proofs.writing.StreamWriterWrite.exchange.Goals as goal
 
 pub returns-in-Ok-clause-takes : goal.returns-in-Ok-clause-takes
@@ -42,3 +43,20 @@ returns-in-Err-clause-takes g c = λ _.
         rw (take_all (length piece) piece (omega arith)) (inr (inl (record { good = good; failed = refl; sends = refused.front told }))),
       );
     }
+
+pub returns-in-Ok-clause-piece : goal.returns-in-Ok-clause-piece
+returns-in-Ok-clause-piece g c =
+    let asked = c.if-not-can_exchange.false in
+    let can = c.can_exchange.ensures in
+    let took = c.in-Ok.ensures in
+    let piece : length c.args.piece.now.items ≡ 65536 = rw c.deref.ensures.value at ((can.full asked).1) in
+    record {
+      can = λ _. (can.good asked, (can.full asked).0, piece, omega (arith, can.room asked, piece));
+      must = λ _ same. cc;
+      counts = λ _. (took.total, took.held, took.failed ∙ can.good asked);
+      fails = tt;
+    }
+
+pub returns-in-Ok-clause-sent : goal.returns-in-Ok-clause-sent
+returns-in-Ok-clause-sent g c = λ told.
+    sends-taken g.S.Suite.seal_of g.W.Write.appended c.args.self.now c.exchange_held.new.self c.args.piece.now.items (c.in-Ok.ensures.took told)
