@@ -1,8 +1,9 @@
 -- Eight blocks of the key stream, and a text that is encrypted as far as a place.
 use Rattle.std.specs.Prelude.{◌≡◌, ℕ, ◌+◌, ◌/◌, ◌%◌, ◌^◌, ◌<◌, List, ◌++◌, take, drop, slice_index}
 use Rattle.std.specs.Int.{w32, to_le_bytes}
-use Rattle.chacha20.specs.Block.{block_words}
+use Rattle.chacha20.specs.Block.{block_words, initial_state}
 use Rattle.chacha20.specs.Lanes.{lane}
+use Rattle.chacha20.specs.Rounds.{double_rounds}
 use Rattle.chacha20.specs.Encryption.{encrypted_from, keystream_byte}
 
 -- the words of the eight blocks from this counter on: the first eight of each block in a list, and then the other eight of each
@@ -18,3 +19,8 @@ IsStreamFrom key counter nonce at words =
 -- of this text, which stands at a place of the stream, the bytes before another place are encrypted
 abbrev pub IsEncryptedTo : List ℕ → ℕ → List ℕ → ℕ → List ℕ → ℕ → List ℕ → Type 0
 IsEncryptedTo key counter nonce from text place bytes = bytes ≡ encrypted_from key counter nonce from (take place text) ++ drop place text
+
+-- of the eight blocks from this counter on, of which these are the states before, so many double rounds are done
+pub record HasDone (key : List ℕ) (counter : ℕ) (nonce : List ℕ) (rounds : ℕ) (before states : List (List ℕ)) : Type 0 where
+  pub first : (j : ℕ) → j < 8 → lane j before ≡ initial_state key ((counter + j) % 2 ^ 32) nonce
+  pub done : (j : ℕ) → j < 8 → lane j states ≡ double_rounds rounds (lane j before)

@@ -1,12 +1,12 @@
 //! The block function (RFC 8439, 2.3), on eight blocks side by side.
-ghost use Rattle.std.specs.Prelude.{◌≡◌, ◌+◌, ◌*◌, ◌/◌, ◌%◌, ◌^◌, ◌<◌, ◌≤◌, ℕ, length, slice_index};
+ghost use Rattle.std.specs.Prelude.{◌≡◌, ◌+◌, ◌*◌, ◌/◌, ◌%◌, ◌^◌, ◌<◌, ◌≤◌, ℕ, List, length, slice_index};
 ghost use Rattle.std.specs.Int.{w32, to_le_bytes};
-ghost use Rattle.chacha20.specs.Block.{block_words, initial_state, word};
-ghost use Rattle.chacha20.specs.Rounds.{word_sum};
+ghost use Rattle.chacha20.specs.Block.{initial_state, word};
+ghost use Rattle.chacha20.specs.Rounds.{double_rounds, word_sum};
 ghost use Rattle.chacha20.specs.Lanes.{lane};
-ghost use Rattle.chacha20.specs.Blocks.{IsBlocks};
+ghost use Rattle.chacha20.specs.Blocks.{HasDone, IsBlocks};
 
-use crate::rounds::{column_round, sum, ten_double_rounds};
+use crate::rounds::{double_round, sum};
 use crate::transposed::transposed;
 use std::simd::u32x8;
 
@@ -32,8 +32,10 @@ fn counters(counter: u32) -> u32x8
     u32x8::splat(counter) + u32x8::from_array([0, 1, 2, 3, 4, 5, 6, 7])
 }
 
-/// The states of eight blocks before the rounds.
-fn initial_states(key: &[u8; 32], counter: u32, nonce: &[u8; 12]) -> [u32x8; 16]
+/// The states of the eight blocks from this counter on, before the rounds (RFC 8439, 2.3), under a key of 32 bytes and a nonce of 12:
+/// word `i` of all of them in vector `i`, block `j` in lane `j`. After block 2^32 - 1 comes block 0.
+#[inline(always)]
+pub fn initial_states(key: &[u8; 32], counter: u32, nonce: &[u8; 12]) -> [u32x8; 16]
     ensures { (j : ℕ) → j < 8 → lane j result ≡ initial_state key.now ((counter + j) % 2 ^ 32) nonce.now }
 {
     [
@@ -75,17 +77,28 @@ fn sums(states: &[u32x8; 16], before: &[u32x8; 16], from: usize) -> [u32x8; 8]
     ]
 }
 
-/// The words of eight blocks: of block `j` the first eight in the lanes of vector `j`, the others in those of vector `8 + j`.
+/// The states after the ten double rounds.
+// (the first stands outside the loop: three of its column's quarter rounds don't have the counter, and are made once for a text)
 #[inline(always)]
-pub fn keystream(key: &[u8; 32], counter: u32, nonce: &[u8; 12]) -> [u32x8; 16]
-    ensures { IsBlocks key.now counter nonce.now result }
+pub fn ten_double_rounds(before: &[u32x8; 16]) -> [u32x8; 16]
+    ensures { (j : ℕ) → j < 8 → lane j result ≡ double_rounds 10 (lane j before.now) }
 {
-    let before = initial_states(key, counter, nonce);
-    let mut states = before;
-    column_round(&mut states);
-    ten_double_rounds(&mut states);
-    let fronts = transposed(&sums(&states, &before, 0));
-    let backs = transposed(&sums(&states, &before, 8));
+    let mut states = *before;
+    double_round(&mut states);
+    'rounds: for _round in 1..10u32 {
+        double_round(&mut states);
+    }
+    states
+}
+
+/// The words of eight blocks, of their states before the ten double rounds and after them: of block `j` the first eight in the lanes
+/// of vector `j`, the others in those of vector `8 + j`.
+#[inline(always)]
+pub fn words_of(before: &[u32x8; 16], states: &[u32x8; 16]) -> [u32x8; 16]
+    ensures { (key : List ℕ) (counter : ℕ) (nonce : List ℕ) → HasDone key counter nonce 10 before.now states.now → IsBlocks key counter nonce result }
+{
+    let fronts = transposed(&sums(states, before, 0));
+    let backs = transposed(&sums(states, before, 8));
     [
         fronts[0], fronts[1], fronts[2], fronts[3], fronts[4], fronts[5], fronts[6], fronts[7],
         backs[0], backs[1], backs[2], backs[3], backs[4], backs[5], backs[6], backs[7],

@@ -11,5 +11,7 @@ mod rounds;
 mod stream;
 mod transposed;
 
+pub use block::initial_states;
 pub use laws::chacha20_laws;
-pub use stream::{apply_keystream, chacha20_block};
+pub use rounds::double_round;
+pub use stream::{apply_blocks, apply_keystream, chacha20_block};

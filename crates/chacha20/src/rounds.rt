@@ -1,6 +1,6 @@
 //! The rounds (RFC 8439, 2.1 to 2.3), on eight states side by side.
-ghost use Rattle.std.specs.Prelude.{◌≡◌, ◌<◌, ℕ, List, slice_index};
-ghost use Rattle.chacha20.specs.Rounds.{column_round, diagonal_round, double_rounds, quarter_round, quarter_round_on, word_sum, xor_rotate};
+ghost use Rattle.std.specs.Prelude.{◌≡◌, ◌<◌, ℕ, slice_index};
+ghost use Rattle.chacha20.specs.Rounds.{column_round, diagonal_round, double_round, quarter_round, quarter_round_on, word_sum, xor_rotate};
 ghost use Rattle.chacha20.specs.Lanes.{lane};
 
 use std::simd::u32x8;
@@ -71,7 +71,7 @@ fn quarter_round_on(states: &mut [u32x8; 16], x: usize, y: usize, z: usize, w: u
 
 /// The quarter round on each column.
 #[inline(always)]
-pub fn column_round(states: &mut [u32x8; 16])
+fn column_round(states: &mut [u32x8; 16])
     ensures { (j : ℕ) → j < 8 → lane j states.new ≡ column_round (lane j states.old) }
 {
     quarter_round_on(states, 0, 4, 8, 12);
@@ -91,13 +91,11 @@ fn diagonal_round(states: &mut [u32x8; 16])
     quarter_round_on(states, 3, 4, 9, 14);
 }
 
-/// The ten double rounds of a block, of whose first the column round is done.
-pub fn ten_double_rounds(states: &mut [u32x8; 16])
-    ensures { (j : ℕ) (start : List ℕ) → j < 8 → lane j states.old ≡ column_round start → lane j states.new ≡ double_rounds 10 start }
+/// A double round, `inner_block` (2.3.1): the columns and then the diagonals.
+#[inline(always)]
+pub fn double_round(states: &mut [u32x8; 16])
+    ensures { (j : ℕ) → j < 8 → lane j states.new ≡ double_round (lane j states.old) }
 {
+    column_round(states);
     diagonal_round(states);
-    'rounds: for _round in 1..10u32 {
-        column_round(states);
-        diagonal_round(states);
-    }
 }

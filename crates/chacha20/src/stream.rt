@@ -2,9 +2,9 @@
 ghost use Rattle.std.specs.Prelude.{◌≡◌, ◌+◌, ◌*◌, ◌%◌, ◌<◌, ◌≤◌, ◌^◌, ℕ, List, length};
 ghost use Rattle.chacha20.specs.Block.{chacha20_block};
 ghost use Rattle.chacha20.specs.Encryption.{chacha20_encrypt, encrypted_from};
-ghost use Rattle.chacha20.specs.Blocks.{IsBlocks, IsEncryptedTo, IsStreamFrom};
+ghost use Rattle.chacha20.specs.Blocks.{HasDone, IsBlocks, IsEncryptedTo, IsStreamFrom};
 
-use crate::block::{bytes_of, keystream};
+use crate::block::{bytes_of, initial_states, ten_double_rounds, words_of};
 use std::simd::u32x8;
 
 /// How many bytes the blocks have that are made side by side.
@@ -37,7 +37,8 @@ fn combine(bytes: &mut [u8], len: usize, at: usize, words: u32x8)
 fn combine_words(bytes: &mut [u8], len: usize, blocks: &[u32x8; 16])
     requires len { len ≡ length bytes.old }
     requires fits { length bytes.old ≤ BLOCKS }
-    ensures { (key : List ℕ) (counter : ℕ) (nonce : List ℕ) (n : ℕ) → IsBlocks key ((counter + 8 * n % 2 ^ 32) % 2 ^ 32) nonce blocks.now
+    ensures length { length bytes.new ≡ length bytes.old }
+    ensures encrypts { (key : List ℕ) (counter : ℕ) (nonce : List ℕ) (n : ℕ) → IsBlocks key ((counter + 8 * n % 2 ^ 32) % 2 ^ 32) nonce blocks.now
         → bytes.new ≡ encrypted_from key counter nonce (512 * n) bytes.old }
 {
     'places: for j in 0..8 {
@@ -46,24 +47,35 @@ fn combine_words(bytes: &mut [u8], len: usize, blocks: &[u32x8; 16])
     }
 }
 
-/// Combines the bytes of eight blocks of a text, or as many as there are, with the key stream from block `8 * n` on.
-// (the key stream is made at one place of the program, so that the rounds are compiled into it)
+/// Combines each byte of a text of at most 512 bytes, by exclusive or, with its byte of eight blocks of the key stream, in place: of
+/// their states before the ten double rounds and after them. Where the text is a part of a longer one that begins at byte
+/// 512 * n of it, these are its blocks from 8 * n on.
 #[inline(always)]
-fn combine_blocks(key: &[u8; 32], counter: u32, nonce: &[u8; 12], n: usize, bytes: &mut [u8])
-    requires { (length bytes.old ≤ BLOCKS) × (BLOCKS * n < 2 ^ 64) }
-    ensures { bytes.new ≡ encrypted_from key.now counter nonce.now (512 * n) bytes.old }
+pub fn apply_blocks(before: &[u32x8; 16], states: &[u32x8; 16], bytes: &mut [u8])
+    requires { length bytes.old ≤ BLOCKS }
+    ensures length { length bytes.new ≡ length bytes.old }
+    ensures encrypts { (key : List ℕ) (counter : ℕ) (nonce : List ℕ) (n : ℕ) → HasDone key ((counter + 8 * n % 2 ^ 32) % 2 ^ 32) nonce 10 before.now states.now
+        → bytes.new ≡ encrypted_from key counter nonce (512 * n) bytes.old }
 {
-    let blocks = keystream(
-        key,
-        counter.wrapping_add((8 * n % 0x1_0000_0000) as u32),
-        nonce,
-    );
+    let blocks = words_of(before, states);
     let len = bytes.len();
     if len == BLOCKS {
         combine_words(bytes, BLOCKS, &blocks);
     } else {
         combine_words(bytes, len, &blocks);
     }
+}
+
+/// Combines the bytes of eight blocks of a text, or as many as there are, with the key stream from block `8 * n` on.
+#[inline(always)]
+fn combine_blocks(key: &[u8; 32], counter: u32, nonce: &[u8; 12], n: usize, bytes: &mut [u8])
+    requires { (length bytes.old ≤ BLOCKS) × (BLOCKS * n < 2 ^ 64) }
+    ensures { bytes.new ≡ encrypted_from key.now counter nonce.now (512 * n) bytes.old }
+{
+    let from = counter.wrapping_add((8 * n % 0x1_0000_0000) as u32);
+    let before = initial_states(key, from, nonce);
+    let states = ten_double_rounds(&before);
+    apply_blocks(&before, &states, bytes);
 }
 
 /// How many groups of eight blocks a text of so many bytes has, with one that isn't whole.

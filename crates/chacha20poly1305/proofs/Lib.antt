@@ -1,2 +1,3 @@
+mod Groups
 mod Pieces
 pub mod Seals

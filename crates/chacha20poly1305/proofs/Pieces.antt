@@ -7,7 +7,7 @@ use Rattle.chacha20.specs.Encryption.{chacha20_encrypt}
 use Rattle.chacha20.proofs.Facts.{chacha20_encrypt-append}
 
 -- a piece of 4,096 bytes, or all that is left
-piece_of : (k : ℕ) (xs : List ℕ) → k ≤ 4096 → (k < 4096 → length xs ≡ k) → take 4096 xs ≡ take k xs
+pub piece_of : (k : ℕ) (xs : List ℕ) → k ≤ 4096 → (k < 4096 → length xs ≡ k) → take 4096 xs ≡ take k xs
 piece_of k xs fits last =
     elim (cases_lt k 4096) [
       | inl below ↦ take_all 4096 xs (omega (arith, last below)) ∙ sym (take_all k xs (omega (arith, last below)))
@@ -34,3 +34,13 @@ piece_more key nonce text before after n k counter within fits last number so_fa
     ∙ ap (λ m. chacha20_encrypt key 1 nonce front ++ chacha20_encrypt key m nonce (take k rest)) number
     ∙ sym (chacha20_encrypt-append key 1 nonce front (take k rest) (64 * n) whole)
     ∙ ap (λ xs. chacha20_encrypt key 1 nonce xs) (sym parts)
+
+-- what stands before a piece, and the piece
+pub text_more : (text : List ℕ) (n k : ℕ) → 512 + 4096 * n + k ≤ length text → k ≤ 4096 → (k < 4096 → 512 + 4096 * n + k ≡ length text)
+    → take (512 + 4096 * n) text ++ take k (drop (512 + 4096 * n) text) ≡ take (512 + 4096 * (n + 1)) text
+text_more text n k within fits last =
+    let at = 512 + 4096 * n in
+    let left = length-drop at text in
+    let next : at + 4096 ≡ 512 + 4096 * (n + 1) = omega arith in
+    ap (λ xs. take at text ++ xs) (sym (piece_of k (drop at text) fits (λ below. omega (arith, left, last below))))
+    ∙ sym (take-add at 4096 text) ∙ ap (λ m. take m text) next

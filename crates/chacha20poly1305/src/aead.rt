@@ -3,17 +3,18 @@ ghost use Rattle.std.specs.Prelude.{◌≡◌, ◌+◌, ◌*◌, ◌<◌, ◌≤
 ghost use Rattle.chacha20.specs.Encryption.{chacha20_encrypt};
 ghost use Rattle.chacha20poly1305.specs.Aead.{opened, seal_of};
 
+use crate::sealing::seal_long;
 use crate::tag::{tag, verifies};
 use chacha20::apply_keystream;
 use std::alloc::{AllocError, Global};
 
-const TAG: usize = 16;
+pub const TAG: usize = 16;
 
 /// How many bytes are copied and encrypted at once: whole blocks, and an eighth of the first cache.
-const PIECE: usize = 4096;
+pub const PIECE: usize = 4096;
 
 /// How many pieces a text of so many bytes has, with one that isn't whole.
-fn pieces_of(len: usize) -> usize
+pub fn pieces_of(len: usize) -> usize
     ensures reach { len ≤ PIECE * result }
     ensures begun { PIECE * result < len + PIECE }
 {
@@ -25,7 +26,7 @@ fn pieces_of(len: usize) -> usize
 }
 
 /// Encrypts the bytes from a place on, in place.
-fn encrypt_from(key: &[u8; 32], counter: u32, nonce: &[u8; 12], bytes: &mut [u8], start: usize)
+pub fn encrypt_from(key: &[u8; 32], counter: u32, nonce: &[u8; 12], bytes: &mut [u8], start: usize)
     requires { start ≤ length bytes.old }
     ensures { bytes.new ≡ take start bytes.old ++ chacha20_encrypt key.now counter nonce.now (drop start bytes.old) }
 {
@@ -33,7 +34,7 @@ fn encrypt_from(key: &[u8; 32], counter: u32, nonce: &[u8; 12], bytes: &mut [u8]
 }
 
 /// Appends a piece of a text, encrypted from the block of this counter on.
-fn append_encrypted(
+pub fn append_encrypted(
     bytes: &mut Vec<u8>,
     key: &[u8; 32],
     counter: u32,
@@ -86,6 +87,10 @@ pub fn seal(
 ) -> Result<Vec<u8>, AllocError>
     ensures { IfOk result (λ sealed. sealed.items ≡ seal_of key.now nonce.now plain.now) }
 {
+    // (the powers of r that are made first don't pay for a shorter one)
+    if plain.len() >= PIECE {
+        return seal_long(alloc, key, nonce, plain);
+    }
     let mut sealed = encrypted(alloc, key, nonce, plain, TAG)?;
     let tag = tag(key, nonce, &sealed);
     sealed.extend_from_slice(&tag)?;

@@ -7,6 +7,7 @@
 
 mod aead;
 mod laws;
+mod sealing;
 mod tag;
 
 pub use aead::{open, seal};

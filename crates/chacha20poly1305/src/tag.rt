@@ -42,15 +42,23 @@ fn give_padding(state: &mut Poly1305, ciphertext: &[u8])
     state.update(&zeros[..(16 - ciphertext.len() % 16) % 16]);
 }
 
-/// The state that was given all that the tag of a ciphertext is made of (RFC 8439, 2.8).
+/// A state that was given a ciphertext, once it is given all else that the tag is made of (RFC 8439, 2.8).
+pub fn ended(state: Poly1305, ciphertext: &[u8]) -> Poly1305
+    ensures { (key : List ℕ) → WasGiven state key ciphertext.now → WasGiven result key (mac_data ciphertext.now) }
+{
+    let mut state = state;
+    give_padding(&mut state, ciphertext);
+    state.update(lengths(ciphertext).as_slice());
+    state
+}
+
+/// The state that was given all that the tag of a ciphertext is made of.
 fn authenticated(key: &[u8; 32], nonce: &[u8; 12], ciphertext: &[u8]) -> Poly1305
     ensures { WasGiven result (one_time_key key.now nonce.now) (mac_data ciphertext.now) }
 {
     let mut state = Poly1305::new(&one_time_key(key, nonce));
     state.update(ciphertext);
-    give_padding(&mut state, ciphertext);
-    state.update(lengths(ciphertext).as_slice());
-    state
+    ended(state, ciphertext)
 }
 
 /// The tag of a ciphertext (RFC 8439, 2.8).

@@ -1,5 +1,5 @@
 -- Groups of blocks in one step, by powers of r.
-use Rattle.std.proofs.Common.{◌≡◌, ◌≢◌, ℕ, suc, ◌+◌, ◌-◌, ◌*◌, ◌/◌, ◌%◌, ◌^◌, ◌<◌, List, ◌++◌, Some, length, take, drop, set, get_or, replicate, refl, sym, ap, subst, inl, inr, ◌∙◌, arith, add_assoc, mul_assoc, length-append, length-drop, take-add}
+use Rattle.std.proofs.Common.{◌≡◌, ◌≢◌, ℕ, suc, ◌+◌, ◌-◌, ◌*◌, ◌/◌, ◌%◌, ◌^◌, ◌<◌, ◌≤◌, List, ◌++◌, Some, length, take, drop, set, get_or, replicate, refl, sym, ap, subst, inl, inr, ◌∙◌, arith, add_assoc, mul_assoc, length-append, length-drop, take-add}
 use Rattle.std.proofs.lemmas.Bool.{cases_lt}
 use Rattle.std.proofs.lemmas.List.{append_assoc, get_or-set_same, get_or-set_other, get_or-replicate, length-replicate, length-set, length-take-le, take_all}
 use Rattle.std.proofs.lemmas.Nat.{mul-mod_first}
@@ -51,29 +51,30 @@ scaled_more r n number power block next text bytes size is_block is_power is_nex
           ∙ ap (λ a. (a * r ^ n) % prime) (sym (accumulated_whole r text bytes is.whole size)));
     }
 
--- block i of a group, times its power of r
-pub scaled_block : (r i number power block next : ℕ) (text group : List ℕ) → i < 64 → length group ≡ 1024
+-- block i of a group of so many, times its power of r
+pub scaled_block : (r blocks i number power block next : ℕ) (text group : List ℕ) → blocks ≤ 64 → i < blocks → length group ≡ 16 * blocks
     → block + 2 ^ 128 ≡ block_number (take (16 * i + 16 - 16 * i) (drop (16 * i) group))
-    → power % prime ≡ r ^ (64 - i) % prime → next % prime ≡ (number + block * power) % prime
-    → IsScaled r (64 - i) number (text ++ take (16 * i) group) → IsScaled r (64 - (i + 1)) next (text ++ take (16 * (i + 1)) group)
-scaled_block r i number power block next text group within size is_block is_power is_next is =
-    let before : 64 - i ≡ suc (63 - i) = omega arith in
-    let after : 63 - i ≡ 64 - (i + 1) = omega arith in
+    → power % prime ≡ r ^ (64 - (64 - blocks + i)) % prime → next % prime ≡ (number + block * power) % prime
+    → IsScaled r (blocks - i) number (text ++ take (16 * i) group)
+    → IsScaled r (blocks - (i + 1)) next (text ++ take (16 * (i + 1)) group)
+scaled_block r blocks i number power block next text group few within size is_block is_power is_next is =
+    let n = blocks - (i + 1) in
+    let before : blocks - i ≡ suc n = omega arith in
+    let place : 64 - (64 - blocks + i) ≡ suc n = omega arith in
     let count : 16 * i + 16 - 16 * i ≡ 16 = omega arith in
     let done = text ++ take (16 * i) group in
     let bytes = take (16 * i + 16 - 16 * i) (drop (16 * i) group) in
     let long : length bytes ≡ 16 = length-take-le (16 * i + 16 - 16 * i) (drop (16 * i) group) (omega (arith, length-drop (16 * i) group)) ∙ count in
     let joined : done ++ bytes ≡ text ++ take (16 * (i + 1)) group =
     append_assoc text (take (16 * i) group) bytes ∙ ap (λ l. text ++ l) (take_more_block group i) in
-    let step = scaled_more r (63 - i) number power block next done bytes long is_block (is_power ∙ ap (λ k. r ^ k % prime) before) is_next
+    let step = scaled_more r n number power block next done bytes long is_block (is_power ∙ ap (λ k. r ^ k % prime) place) is_next
     (subst (λ (k : ℕ). IsScaled r k number (text ++ take (16 * i) group)) before is) in
-    subst (λ (k : ℕ). IsScaled r k next (text ++ take (16 * (i + 1)) group)) after
-    (subst (λ (l : List ℕ). IsScaled r (63 - i) next l) joined step)
+    subst (λ (l : List ℕ). IsScaled r n next l) joined step
 
 -- the same place of a group, in other words
-pub scaled_at : (r number i j : ℕ) (text group : List ℕ) → i ≡ j
-    → IsScaled r (64 - i) number (text ++ take (16 * i) group) → IsScaled r (64 - j) number (text ++ take (16 * j) group)
-scaled_at r number i j text group same is = subst (λ (k : ℕ). IsScaled r (64 - k) number (text ++ take (16 * k) group)) same is
+pub scaled_at : (r blocks number i j : ℕ) (text group : List ℕ) → i ≡ j
+    → IsScaled r (blocks - i) number (text ++ take (16 * i) group) → IsScaled r (blocks - j) number (text ++ take (16 * j) group)
+scaled_at r blocks number i j text group same is = subst (λ (k : ℕ). IsScaled r (blocks - k) number (text ++ take (16 * k) group)) same is
 
 nothing_beyond : (r n : ℕ) → bits_beyond r 0 + n ≡ n
 unfolding bits_beyond
@@ -84,38 +85,47 @@ unfolding bits_beyond
 bit_more r n number = add_assoc number (2 ^ 128 * r ^ suc n) (bits_beyond r n)
 
 -- the bits beyond one block more
-pub beyond_more : (r i number power next : ℕ) → i < 64 → power % prime ≡ r ^ (64 - i) % prime → next % prime ≡ (number + 2 ^ 128 * power) % prime
-    → (number + bits_beyond r (64 - i)) % prime ≡ bits_beyond r 64 % prime → (next + bits_beyond r (64 - (i + 1))) % prime ≡ bits_beyond r 64 % prime
-beyond_more r i number power next within is_power is_next is =
-    let before : 64 - i ≡ suc (63 - i) = omega arith in
-    let after : 64 - (i + 1) ≡ 63 - i = omega arith in
-    let rest = bits_beyond r (63 - i) in
-    ap (λ k. (next + bits_beyond r k) % prime) after
-    ∙ congruent_sum next rest (number + 2 ^ 128 * r ^ suc (63 - i)) rest (is_next
-    ∙ congruent_sum number (2 ^ 128 * power) number (2 ^ 128 * r ^ suc (63 - i)) refl
-    (congruent_product (2 ^ 128) power (r ^ suc (63 - i)) (is_power ∙ ap (λ k. r ^ k % prime) before))) refl
-    ∙ ap (λ k. k % prime) (bit_more r (63 - i) number) ∙ ap (λ k. (number + bits_beyond r k) % prime) (sym before) ∙ is
+pub beyond_more : (r blocks i number power next : ℕ) → blocks ≤ 64 → i < blocks → power % prime ≡ r ^ (64 - (64 - blocks + i)) % prime
+    → next % prime ≡ (number + 2 ^ 128 * power) % prime
+    → (number + bits_beyond r (blocks - i)) % prime ≡ bits_beyond r blocks % prime
+    → (next + bits_beyond r (blocks - (i + 1))) % prime ≡ bits_beyond r blocks % prime
+beyond_more r blocks i number power next few within is_power is_next is =
+    let n = blocks - (i + 1) in
+    let before : blocks - i ≡ suc n = omega arith in
+    let place : 64 - (64 - blocks + i) ≡ suc n = omega arith in
+    let rest = bits_beyond r n in
+    congruent_sum next rest (number + 2 ^ 128 * r ^ suc n) rest (is_next
+    ∙ congruent_sum number (2 ^ 128 * power) number (2 ^ 128 * r ^ suc n) refl
+    (congruent_product (2 ^ 128) power (r ^ suc n) (is_power ∙ ap (λ k. r ^ k % prime) place))) refl
+    ∙ ap (λ k. k % prime) (bit_more r n number) ∙ ap (λ k. (number + bits_beyond r k) % prime) (sym before) ∙ is
 
-pub beyond_all : (r i number : ℕ) → i ≡ 64 → (number + bits_beyond r (64 - i)) % prime ≡ bits_beyond r 64 % prime → number % prime ≡ bits_beyond r 64 % prime
+pub beyond_all : (r blocks i number : ℕ) → i ≡ blocks → (number + bits_beyond r (blocks - i)) % prime ≡ bits_beyond r blocks % prime
+    → number % prime ≡ bits_beyond r blocks % prime
 unfolding bits_beyond
-beyond_all r i number all is =
-    let none : 64 - i ≡ 0 = omega arith in
+beyond_all r blocks i number all is =
+    let none : blocks - i ≡ 0 = omega arith in
     ap (λ k. k % prime) (sym (add-zero number)) ∙ ap (λ k. (number + bits_beyond r k) % prime) (sym none) ∙ is
 
 -- no power of r is left
-pub scaled_last : (r i number result : ℕ) (text group : List ℕ) → i ≡ 64 → length group ≡ 1024 → result % prime ≡ number % prime
-    → IsScaled r (64 - i) number (text ++ take (16 * i) group) → IsAccumulator r (result % prime) (text ++ group)
-scaled_last r i number result text group all size is_result is =
-    let none : 64 - i ≡ 0 = omega arith in
-    let whole : take (16 * i) group ≡ group = take_all (16 * i) group (omega arith) in
-    let last = subst (λ (l : List ℕ). IsScaled r 0 number (text ++ l)) whole
-    (subst (λ (k : ℕ). IsScaled r k number (text ++ take (16 * i) group)) none is) in
-    let end = accumulated r (text ++ group) (length (text ++ group) / 16) in
+pub scaled_last : (r n number result : ℕ) (text : List ℕ) → n ≡ 0 → result % prime ≡ number % prime
+    → IsScaled r n number text → IsAccumulator r (result % prime) text
+scaled_last r n number result text none is_result is =
+    let last = subst (λ (k : ℕ). IsScaled r k number text) none is in
+    let end = accumulated r text (length text / 16) in
     record {
       whole = last.whole;
       value = is_result ∙ last.value ∙ ap (λ k. k % prime) (nothing_beyond r (end * r ^ 0)) ∙ ap (λ k. (end * k) % prime) (pow-zero r) ∙ ap (λ k. k % prime) (mul-one end)
-          ∙ accumulated-mod r (text ++ group) (length (text ++ group) / 16);
+          ∙ accumulated-mod r text (length text / 16);
     }
+
+-- a whole group is taken
+pub scaled_all : (r blocks i number : ℕ) (text group : List ℕ) → i ≡ blocks → length group ≡ 16 * blocks
+    → IsScaled r (blocks - i) number (text ++ take (16 * i) group) → IsScaled r 0 number (text ++ group)
+scaled_all r blocks i number text group all size is =
+    let none : blocks - i ≡ 0 = omega arith in
+    let whole : take (16 * i) group ≡ group = take_all (16 * i) group (omega arith) in
+    subst (λ (l : List ℕ). IsScaled r 0 number (text ++ l)) whole
+    (subst (λ (k : ℕ). IsScaled r k number (text ++ take (16 * i) group)) none is)
 
 -- the groups of a text, and the next one
 pub take_more_group : (text : List ℕ) (i : ℕ) → take (1024 * i) text ++ take (1024 * i + 1024 - 1024 * i) (drop (1024 * i) text) ≡ take (1024 * (i + 1)) text

@@ -2,3 +2,4 @@ pub mod Mac
 pub mod Limbs
 pub mod Groups
 pub mod Given
+pub mod Steps

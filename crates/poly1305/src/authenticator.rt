@@ -4,8 +4,9 @@ ghost use Rattle.poly1305.specs.Mac.{accumulated, block_count, clamped, poly1305
 ghost use Rattle.poly1305.specs.Limbs.{number_of, IsFactor};
 
 use crate::blocks::{clamped, completed, number, short_block, whole_block};
-use crate::groups::{GROUP, groups_absorbed};
+use crate::groups::{GROUP, carried, groups_absorbed};
 use crate::limbs::{Factor, Limbs, absorbed, reduced};
+use crate::steps::Steps;
 use std::fmt;
 
 // From so many bytes on blocks are taken in groups: fewer don't make up for the powers of r that are made first.
@@ -15,8 +16,8 @@ const LONG: usize = 4096;
 #[derive(Drop)]
 pub struct Poly1305 {
     // Of the whole blocks.
-    accumulator: Limbs,
-    r: Factor,
+    pub(crate) accumulator: Limbs,
+    pub(crate) r: Factor,
     s: u128,
     // The block that is begun, and how many bytes of it were given.
     block: [u8; 16],
@@ -28,6 +29,7 @@ pub struct Poly1305 {
 
 impl Poly1305 {
     ghost use Rattle.poly1305.specs.Given.{WasGiven};
+    ghost use Rattle.poly1305.specs.Steps.{AreTakenTo, HasTaken, IsUnbegun};
 
     /// The state under a key of 32 bytes, with no text given yet.
     pub fn new(key: &[u8; 32]) -> Poly1305
@@ -77,6 +79,18 @@ impl Poly1305 {
         ensures unbegun { self.new.filled ≡ 0 }
     {
         self.accumulator = groups_absorbed(self.accumulator, self.r, groups);
+    }
+
+    /// Takes a group of 512 bytes whose eight steps are done, where no block is begun.
+    #[inline(always)]
+    pub fn take_group(&mut self, steps: Steps)
+        requires unbegun { IsUnbegun self.old }
+        requires below { AreTakenTo 8 steps }
+        ensures given { (key text group : List ℕ) → length group ≡ 512 → WasGiven self.old key text → HasTaken key text group steps
+            → WasGiven self.new key (text ++ group) }
+        ensures unbegun { IsUnbegun self.new }
+    {
+        self.accumulator = carried(steps.columns);
     }
 
     /// Takes whole blocks, where none is begun.

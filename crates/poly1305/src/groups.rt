@@ -27,7 +27,7 @@ struct ShortLimbs {
 /// The sums of products of a limb and a short limb, before their carries: as with short limbs, the second counts 2^44 and the third
 /// 2^88.
 #[derive(Clone, Copy)]
-struct ShortColumns {
+pub struct ShortColumns {
     low: u128,
     middle: u128,
     high: u128,
@@ -36,7 +36,7 @@ struct ShortColumns {
 /// What a number is multiplied by: its low limb by the first part, its second limb by the second part, which is 2^64 times as much
 /// modulo the prime.
 #[derive(Clone, Copy)]
-struct Multiplier {
+pub struct Multiplier {
     low: ShortLimbs,
     middle: ShortLimbs,
 }
@@ -97,7 +97,7 @@ fn with_third(column: u128, third: u64, short: u64) -> u128
 
 /// Columns and what the product of two numbers modulo the prime adds to them.
 #[inline(always)]
-fn with_product(columns: ShortColumns, number: Limbs, by: Multiplier) -> ShortColumns
+pub fn with_product(columns: ShortColumns, number: Limbs, by: Multiplier) -> ShortColumns
     requires columns { AreBelow (2 ^ 120) columns }
     requires number { number.high < 8 }
     requires by { IsMultiplier by }
@@ -133,7 +133,7 @@ fn columns_of(number: Limbs, by: Multiplier) -> ShortColumns
 
 /// A number modulo the prime, by the carries from each column to the next, and from bit 130 to the first, which counts 5 there.
 #[inline(always)]
-fn carried(columns: ShortColumns) -> Limbs
+pub fn carried(columns: ShortColumns) -> Limbs
     requires { AreBelow (2 ^ 120) columns }
     ensures value { number_of result % prime ≡ short_column_number columns % prime }
     ensures high { result.high ≤ 4 }
@@ -162,7 +162,7 @@ fn multiplied(number: Limbs, by: Multiplier) -> Limbs
 }
 
 /// The powers of a factor, from its sixty-fourth down to its first.
-fn powers_of(r: Factor) -> [Multiplier; 64]
+pub fn powers_of(r: Factor) -> [Multiplier; 64]
     requires { IsFactor r }
     ensures multipliers { AreMultipliers result }
     ensures powers { ArePowers (factor_number r) result }
@@ -181,20 +181,22 @@ fn powers_of(r: Factor) -> [Multiplier; 64]
     powers
 }
 
-/// The power of r that block `i` of a group is multiplied by.
+/// Power `i` of r, counted from its sixty-fourth down.
 #[inline(always)]
-fn power_at(powers: &[Multiplier; 64], i: usize) -> Multiplier
+pub fn power_at(powers: &[Multiplier; 64], i: usize) -> Multiplier
     requires { i < 64 }
     ensures { slice_get powers.now i ≡ Some result }
 {
     powers[i]
 }
 
-/// What the bits beyond the bytes of a group's blocks make before its carries: 2^128 times each power.
-fn columns_beyond(powers: &[Multiplier; 64]) -> ShortColumns
-    requires { AreMultipliers powers.now }
-    ensures value { (r : ℕ) → ArePowers r powers.now → short_column_number result % prime ≡ bits_beyond r 64 % prime }
-    ensures bounds { AreBelow (65 * 2 ^ 112) result }
+/// What the bits beyond the bytes of a group of so many blocks make before its carries: 2^128 times each of the last powers.
+#[inline(always)]
+pub fn columns_beyond(powers: &[Multiplier; 64], blocks: usize) -> ShortColumns
+    requires multipliers { AreMultipliers powers.now }
+    requires few { blocks ≤ 64 }
+    ensures value { (r : ℕ) → ArePowers r powers.now → short_column_number result % prime ≡ bits_beyond r blocks % prime }
+    ensures bounds { AreBelow ((blocks + 1) * 2 ^ 112) result }
 {
     let bit = Limbs {
         low: 0,
@@ -206,31 +208,33 @@ fn columns_beyond(powers: &[Multiplier; 64]) -> ShortColumns
         middle: 0,
         high: 0,
     };
-    'each: for i in 0..64usize {
-        columns = with_product(columns, bit, power_at(powers, i));
+    'each: for i in 0..blocks {
+        columns = with_product(columns, bit, power_at(powers, 64 - blocks + i));
     }
     columns
 }
 
-/// Columns and what block `i` of a group adds to them.
+/// Columns and what block `i` of a group of so many blocks adds to them: the last block is multiplied by the first power of r.
 #[inline(always)]
-fn with_block(
+pub fn with_block(
     columns: ShortColumns,
     powers: &[Multiplier; 64],
     group: &[u8],
+    blocks: usize,
     i: usize,
 ) -> ShortColumns
-    requires within { i < 64 }
+    requires few { blocks ≤ 64 }
+    requires within { i < blocks }
     requires multipliers { AreMultipliers powers.now }
-    requires group { length group.now ≡ GROUP }
+    requires group { length group.now ≡ 16 * blocks }
     requires columns { AreBelow ((i + 66) * 2 ^ 112) columns }
     ensures value { (r : ℕ) (text : List ℕ) → ArePowers r powers.now
-        → IsScaled r (64 - i) (short_column_number columns) (text ++ take (16 * i) group.now)
-        → IsScaled r (64 - (i + 1)) (short_column_number result) (text ++ take (16 * (i + 1)) group.now) }
+        → IsScaled r (blocks - i) (short_column_number columns) (text ++ take (16 * i) group.now)
+        → IsScaled r (blocks - (i + 1)) (short_column_number result) (text ++ take (16 * (i + 1)) group.now) }
     ensures bounds { AreBelow ((i + 67) * 2 ^ 112) result }
 {
     let block = whole_bytes(&group[16 * i..16 * i + 16]);
-    with_product(columns, block, power_at(powers, i))
+    with_product(columns, block, power_at(powers, 64 - blocks + i))
 }
 
 /// The accumulator after one more group of a text. The powers are those of r, and `beyond` is what the bits beyond the blocks' bytes
@@ -254,10 +258,10 @@ fn group_absorbed(
 {
     let mut columns = with_product(*beyond, accumulator, power_at(powers, 0));
     'each: for i in 0..16usize {
-        columns = with_block(columns, powers, group, 4 * i);
-        columns = with_block(columns, powers, group, 4 * i + 1);
-        columns = with_block(columns, powers, group, 4 * i + 2);
-        columns = with_block(columns, powers, group, 4 * i + 3);
+        columns = with_block(columns, powers, group, 64, 4 * i);
+        columns = with_block(columns, powers, group, 64, 4 * i + 1);
+        columns = with_block(columns, powers, group, 64, 4 * i + 2);
+        columns = with_block(columns, powers, group, 64, 4 * i + 3);
     }
     carried(columns)
 }
@@ -272,7 +276,7 @@ pub fn groups_absorbed(accumulator: Limbs, r: Factor, groups: &[u8]) -> Limbs
     ensures high { result.high ≤ 4 }
 {
     let powers = powers_of(r);
-    let beyond = columns_beyond(&powers);
+    let beyond = columns_beyond(&powers, 64);
     let mut next = accumulator;
     'each: for i in 0..groups.len() / GROUP {
         next = group_absorbed(

@@ -9,6 +9,8 @@ mod blocks;
 mod groups;
 mod laws;
 mod limbs;
+mod steps;
 
 pub use authenticator::{Poly1305, poly1305_mac};
 pub use laws::poly1305_laws;
+pub use steps::{Powers, Steps};

@@ -17,6 +17,6 @@ places-preserved c =
           (c.places.invariant.1 key counter nonce n are))),
     )
 
-pub returns : goal.returns
-returns c key counter nonce n are =
+pub returns-clause-encrypts : goal.returns-clause-encrypts
+returns-clause-encrypts c key counter nonce n are =
     to_end key counter nonce (512 * n) c.args.bytes.now c.places.bytes (64 * c.places.j) (omega arith) (c.places.invariant.1 key counter nonce n are)

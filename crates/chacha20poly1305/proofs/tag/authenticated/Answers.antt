@@ -1,10 +1,10 @@
-use Rattle.std.proofs.Common.{[]}
+use Rattle.std.proofs.Common.{List, ℕ, [], subst}
+use Rattle.poly1305.specs.Given.{WasGiven}
 use Rattle.chacha20poly1305.specs.Aead.{mac_data}
 use Rattle.chacha20poly1305.proofs.tag.authenticated.Goals as goal
 
 pub returns : goal.returns
-unfolding mac_data
 returns c =
     let key = c.one_time_key.result in
-    let given = c.update-2.ensures key _ (c.give_padding.ensures key _ (c.update.ensures key [] c.new-state.ensures)) in
-    rw (c.one_time_key.ensures, c.as_slice.ensures, c.lengths.ensures) at given
+    subst (λ (k : List ℕ). WasGiven c.ended.result k (mac_data c.args.ciphertext.now)) c.one_time_key.ensures
+    (c.ended.ensures key (c.update.ensures key [] c.new-state.ensures))

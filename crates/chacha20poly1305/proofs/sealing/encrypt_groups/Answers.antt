@@ -1,0 +1,42 @@
+use Rattle.std.proofs.Common.{◌≡◌, ◌+◌, ◌-◌, ◌*◌, ◌/◌, ◌∙◌, List, ℕ, ap, refl, sym, subst, arith, length, take}
+use Rattle.chacha20.specs.Blocks.{IsEncryptedTo}
+use Rattle.chacha20.proofs.Streams.{length-encrypted_to}
+use Rattle.poly1305.specs.Given.{WasGiven}
+use Rattle.chacha20poly1305.proofs.Groups.{front_kept, length-rest_encrypted, rest_encrypted}
+use Rattle.chacha20poly1305.proofs.sealing.encrypt_groups.Goals as goal
+
+pub groups-init : goal.groups-init
+groups-init c = (refl, c.requires.unbegun, λ text is. is, λ one powers given. given)
+
+pub groups-preserved : goal.groups-preserved
+groups-preserved c =
+    let n = c.groups.n in
+    let next : n ≡ n + 1 - 1 = omega arith in (
+      c.encrypt_group.ensures.length ∙ c.groups.invariant.0,
+      c.encrypt_group.ensures.unbegun,
+      λ text is. c.encrypt_group.ensures.encrypted text (c.groups.invariant.2 text is),
+      λ one powers given. subst (λ (k : ℕ). WasGiven c.encrypt_group.new.state one (take (512 * k) c.encrypt_group.new.bytes)) next
+          (c.encrypt_group.ensures.given one powers (c.groups.invariant.3 one powers given)),
+    )
+
+pub returns-clause-encrypted : goal.returns-clause-encrypted
+returns-clause-encrypted c = λ text is.
+    let key = c.args.key.now in
+    let nonce = c.args.nonce.now in
+    let whole = length c.args.bytes.now / 512 in
+    let done : c.groups.n ≡ whole = omega (arith, c.requires.within.1) in
+    let long = length-encrypted_to key 1 nonce 0 text c.args.bytes.now _ is in
+    rest_encrypted key nonce text c.groups.bytes _ whole _ (omega (arith, long)) c.counter_of.ensures
+    (subst (λ (n : ℕ). IsEncryptedTo key 1 nonce 0 text (512 * n) c.groups.bytes) done (c.groups.invariant.2 text is)) c.encrypt_from.ensures
+
+pub returns-clause-given : goal.returns-clause-given
+returns-clause-given c = λ one powers given.
+    let whole = length c.args.bytes.now / 512 in
+    let done : c.groups.n ≡ whole = omega (arith, c.requires.within.1) in
+    let before = subst (λ (n : ℕ). WasGiven c.groups.state one (take (512 * (n - 1)) c.groups.bytes)) done (c.groups.invariant.3 one powers given) in
+    subst (λ (t : List ℕ). WasGiven c.groups.state one t)
+    (front_kept c.args.key.now c.args.nonce.now c.groups.bytes _ whole _ (ap (λ n. n / 512) (sym c.groups.invariant.0)) c.encrypt_from.ensures) before
+
+pub returns-clause-length : goal.returns-clause-length
+returns-clause-length c =
+    length-rest_encrypted c.args.key.now c.args.nonce.now c.groups.bytes _ (length c.args.bytes.now / 512) _ c.encrypt_from.ensures ∙ c.groups.invariant.0
