@@ -1,14 +1,7 @@
 -- A group of thirty-two blocks, four of them a step.
-use Rattle.std.proofs.Common.{◌≡◌, ℕ, ◌-◌, ◌*◌, ◌/◌, ◌%◌, ◌≤◌, List, ◌++◌, length, take, sym, subst, arith, ◌∙◌}
+use Rattle.std.proofs.Common.{◌≡◌, ℕ, ◌-◌, ◌*◌, ◌/◌, ◌%◌, ◌≤◌, List, ◌++◌, length, take, sym, subst, arith}
 use Rattle.std.proofs.lemmas.List.{length-take-le}
-use Rattle.poly1305.specs.declared.authenticator.Poly1305.{Poly1305}
-use Rattle.poly1305.specs.Given.{WasGiven}
 use Rattle.poly1305.specs.Groups.{IsScaled}
-use Rattle.poly1305.specs.Steps.{IsUnbegun}
-
--- after a text of whole blocks none is begun
-pub unbegun : (state : Poly1305) (key text : List ℕ) → WasGiven state key text → length text % 16 ≡ 0 → IsUnbegun state
-unbegun state key text given whole = given.count ∙ whole
 
 -- what is taken before a step, counted in blocks and in bytes
 module _ (r number i : ℕ) (text group : List ℕ) (within : i ≤ 8) (size : length group ≡ 512) where
