@@ -1,6 +1,7 @@
 -- A ciphertext that is made group by group, and what its tag was given.
 use Rattle.std.proofs.Common.{◌≡◌, ◌∙◌, ap, sym, ℕ, ◌+◌, ◌-◌, ◌*◌, ◌/◌, ◌%◌, ◌^◌, ◌<◌, ◌≤◌, List, ◌++◌, length, take, drop, arith, length-append}
 use Rattle.std.proofs.lemmas.List.{length-take-le, take_at, drop_at, take-append-drop, take-append-le, take-take}
+use Rattle.std.proofs.lemmas.Slice.{between_to_end}
 use Rattle.std.proofs.Math.Seq.{take-add}
 use Rattle.chacha20.specs.Blocks.{IsEncryptedTo}
 use Rattle.chacha20.specs.Encryption.{chacha20_encrypt, encrypted_from}
@@ -66,9 +67,9 @@ front_kept key nonce before after w counter number is =
     let same = length-rest_encrypted key nonce before after w counter is in
     let count : 512 * (w - 1) ≡ 512 * (length after / 512 - 1) = omega (arith, same, number) in
     sym (
-      ap (take (512 * (w - 1))) is
-      ∙ take-append-le (512 * (w - 1)) front (chacha20_encrypt key counter nonce (drop (512 * w) before)) (omega (arith, long))
-      ∙ take-take (512 * (w - 1)) (512 * w) before (omega arith)
+    ap (take (512 * (w - 1))) is
+    ∙ take-append-le (512 * (w - 1)) front (chacha20_encrypt key counter nonce (drop (512 * w) before)) (omega (arith, long))
+    ∙ take-take (512 * (w - 1)) (512 * w) before (omega arith)
     ) ∙ ap (λ k. take k after) count
 
 -- what the tag was given of a ciphertext to which a piece was appended
@@ -77,3 +78,15 @@ pub front_with_piece : (before piece all : List ℕ) (from : ℕ) → all ≡ be
 front_with_piece before piece all from joined size =
     let count : 512 * (length before / 512 - 1) ≡ 512 * (from - 1) = omega (arith, size) in
     ap (λ k. take k before) count ∙ sym (ap (take (512 * (from - 1))) joined ∙ take-append-le (512 * (from - 1)) before piece (omega (arith, size)))
+
+-- one group more
+pub group_more : (n : ℕ) (bytes : List ℕ) → take (512 * n) bytes ++ take (512 * n + 512 - 512 * n) (drop (512 * n) bytes) ≡ take (512 * (n + 1)) bytes
+group_more n bytes =
+    let size : 512 * n + 512 - 512 * n ≡ 512 = omega arith in
+    let next : 512 * n + 512 ≡ 512 * (n + 1) = omega arith in
+    ap (λ k. take (512 * n) bytes ++ take k (drop (512 * n) bytes)) size ∙ sym (take-add (512 * n) 512 bytes) ∙ ap (λ k. take k bytes) next
+
+-- the whole groups, and what follows them
+pub whole_text : (bytes : List ℕ) (n : ℕ) → 512 * n ≤ length bytes → take (512 * n) bytes ++ take (length bytes - 512 * n) (drop (512 * n) bytes) ≡ bytes
+whole_text bytes n within =
+    ap (λ xs. take (512 * n) bytes ++ xs) (between_to_end bytes (512 * n) (length bytes) (omega arith)) ∙ take-append-drop (512 * n) bytes

@@ -3,7 +3,7 @@ ghost use Rattle.std.specs.Prelude.{◌≡◌, ◌+◌, ◌*◌, ◌<◌, ◌≤
 ghost use Rattle.chacha20.specs.Encryption.{chacha20_encrypt};
 ghost use Rattle.chacha20poly1305.specs.Aead.{opened, seal_of};
 
-use crate::sealing::seal_long;
+use crate::sealing::{open_long, seal_long};
 use crate::tag::{tag, verifies};
 use chacha20::apply_keystream;
 use std::alloc::{AllocError, Global};
@@ -98,9 +98,12 @@ pub fn seal(
 }
 
 /// Opens a text of any number of bytes under a key of 32 bytes and a nonce of 12: the plaintext whose seal it is, or `None` where it
-/// is the seal of none, as where it has fewer than 16 bytes (RFC 8439, 2.8, with no additional data). The tag is compared first, to its
-/// end: a text that is no seal takes no memory, and no part of it is decrypted. A seal takes memory at most once, for the
-/// plaintext. `AllocError` where it is refused.
+/// is the seal of none, as where it has fewer than 16 bytes (RFC 8439, 2.8, with no additional data). The tag is compared to its
+/// end. Memory is taken at most once, for the plaintext. `AllocError` where it is refused, but a text that is no seal is `None`
+/// all the same.
+///
+/// A long text is decrypted while its tag is made, and what was decrypted is let go where the tag is another. A shorter one isn't
+/// decrypted before its tag was compared.
 #[tactic(auto, using(crate::proofs::Seals::opened_verified), unfolding(crate::specs::Aead::opened))]
 pub fn open(
     alloc: Global,
@@ -115,6 +118,9 @@ pub fn open(
         return Ok(None);
     }
     let (ciphertext, tag) = sealed.split_at(sealed.len() - TAG);
+    if ciphertext.len() >= PIECE {
+        return open_long(alloc, key, nonce, ciphertext, tag);
+    }
     if !verifies(key, nonce, ciphertext, tag) {
         return Ok(None);
     }

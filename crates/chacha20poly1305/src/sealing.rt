@@ -1,16 +1,17 @@
-//! Sealing a long plaintext (RFC 8439, 2.8): while a group of 512 bytes is encrypted, the tag takes the group before it. Most steps of
-//! the rounds are those of vectors, and those of the tag are multiplications of words, so that a processor makes them side by side.
-ghost use Rattle.std.specs.Prelude.{◌≡◌, ◌+◌, ◌-◌, ◌*◌, ◌/◌, ◌%◌, ◌^◌, ◌<◌, ◌≤◌, ◌++◌, ℕ, List, IfOk, OnOk, length, take, vec_items};
+//! Sealing and opening long texts (RFC 8439, 2.8), in groups of 512 bytes. Beside the rounds for a group the tag takes a group of the
+//! ciphertext: of a seal the one before, and of a text that is opened the same. Rounds are steps of vectors and a tag is
+//! multiplications of words, so that a processor makes both at once.
+ghost use Rattle.std.specs.Prelude.{◌≡◌, ◌+◌, ◌-◌, ◌*◌, ◌/◌, ◌%◌, ◌^◌, ◌<◌, ◌≤◌, ◌≢◌, ◌++◌, ℕ, List, [], IfErr, IfOk, MatchOption, OnOk, length, take};
 ghost use Rattle.chacha20.specs.Blocks.{IsEncryptedTo};
 ghost use Rattle.chacha20.specs.Encryption.{chacha20_encrypt};
 ghost use Rattle.chacha20.specs.Lanes.{lane};
 ghost use Rattle.chacha20.specs.Rounds.{double_rounds};
 ghost use Rattle.poly1305.specs.Given.{WasGiven};
 ghost use Rattle.poly1305.specs.Steps.{ArePowersFor, IsUnbegun};
-ghost use Rattle.chacha20poly1305.specs.Aead.{one_time_key, seal_of};
+ghost use Rattle.chacha20poly1305.specs.Aead.{one_time_key, seal_of, tag_of};
 
 use crate::aead::{PIECE, TAG, append_encrypted, encrypt_from, pieces_of};
-use crate::tag::{ended, one_time_key};
+use crate::tag::{ended, one_time_key, verifies};
 use chacha20::{apply_blocks, double_round, initial_states};
 use poly1305::{Poly1305, Powers, Steps};
 use std::alloc::{AllocError, Global};
@@ -161,4 +162,117 @@ pub fn seal_long(
     let tag = ended(state, &bytes).finalize();
     bytes.extend_from_slice(&tag)?;
     Ok(bytes)
+}
+
+/// Decrypts group `n` of a copy of a ciphertext in place. The tag takes the group as it is in the ciphertext.
+#[inline(always)]
+fn decrypt_group(
+    key: &[u8; 32],
+    nonce: &[u8; 12],
+    state: &mut Poly1305,
+    powers: &Powers,
+    group: &[u8],
+    bytes: &mut [u8],
+    n: usize,
+)
+    requires group { length group.now ≡ GROUP }
+    requires within { GROUP * n + GROUP ≤ length bytes.old }
+    requires unbegun { IsUnbegun state.old }
+    ensures length { length bytes.new ≡ length bytes.old }
+    ensures decrypted { (text : List ℕ) → IsEncryptedTo key.now 1 nonce.now 0 text (512 * n) bytes.old
+        → IsEncryptedTo key.now 1 nonce.now 0 text (512 * (n + 1)) bytes.new }
+    ensures given { (one text : List ℕ) → ArePowersFor one powers.now → WasGiven state.old one text → WasGiven state.new one (text ++ group.now) }
+    ensures unbegun { IsUnbegun state.new }
+{
+    let before = initial_states(key, counter_of(n), nonce);
+    let mut states = before;
+    double_round(&mut states);
+    double_round(&mut states);
+    rounds_beside(&mut states, state, powers, group);
+    apply_blocks(&before, &states, &mut bytes[GROUP * n..GROUP * n + GROUP]);
+}
+
+/// Decrypts a copy of a ciphertext in place. The tag takes all whole groups.
+#[inline(never)]
+fn decrypt_groups(
+    key: &[u8; 32],
+    nonce: &[u8; 12],
+    state: &mut Poly1305,
+    powers: &Powers,
+    ciphertext: &[u8],
+    bytes: &mut [u8],
+)
+    requires same { length bytes.old ≡ length ciphertext.now }
+    requires unbegun { IsUnbegun state.old }
+    ensures length { length bytes.new ≡ length bytes.old }
+    ensures decrypted { bytes.old ≡ ciphertext.now → bytes.new ≡ chacha20_encrypt key.now 1 nonce.now ciphertext.now }
+    ensures given { (one : List ℕ) → ArePowersFor one powers.now → WasGiven state.old one []
+        → WasGiven state.new one (take (512 * (length ciphertext.now / 512)) ciphertext.now) }
+{
+    // (copies, which no write to the bytes can change: so what is made of them is made once)
+    let key = *key;
+    let nonce = *nonce;
+    let whole = ciphertext.len() / GROUP;
+    'groups: for n in 0..whole {
+        let group = &ciphertext[GROUP * n..GROUP * n + GROUP];
+        decrypt_group(&key, &nonce, state, powers, group, bytes, n);
+    }
+    encrypt_from(&key, counter_of(whole), &nonce, bytes, GROUP * whole);
+}
+
+/// A copy of a text. Memory is taken once, or not at all for none.
+fn copied(alloc: Global, text: &[u8]) -> Result<Vec<u8>, AllocError>
+    ensures { IfOk result (λ bytes. bytes.items ≡ text.now) }
+{
+    let mut bytes = Vec::with_capacity(alloc, text.len())?;
+    bytes.extend_from_slice(text)?;
+    Ok(bytes)
+}
+
+/// A copy of a ciphertext, decrypted, where this is the ciphertext's tag. A difference doesn't end the comparison.
+fn verified(
+    key: &[u8; 32],
+    nonce: &[u8; 12],
+    ciphertext: &[u8],
+    tag: &[u8],
+    copy: Vec<u8>,
+) -> Option<Vec<u8>>
+    requires { copy.items ≡ ciphertext.now }
+    ensures { MatchOption result (tag.now ≢ tag_of key.now nonce.now ciphertext.now) (λ bytes.
+        (tag.now ≡ tag_of key.now nonce.now ciphertext.now) × (bytes.items ≡ chacha20_encrypt key.now 1 nonce.now ciphertext.now)) }
+{
+    let mut bytes = copy;
+    let mut state = Poly1305::new(&one_time_key(key, nonce));
+    let powers = Powers::new(&state);
+    decrypt_groups(key, nonce, &mut state, &powers, ciphertext, &mut bytes);
+    state.update(&ciphertext[GROUP * (ciphertext.len() / GROUP)..]);
+    if !ended(state, ciphertext).verify(tag) {
+        return None;
+    }
+    Some(bytes)
+}
+
+/// The plaintext of a ciphertext, where this is its tag, which is compared to its end. Memory is taken at most once, for the
+/// plaintext. Where it is refused, a ciphertext that hasn't this tag is `None` all the same, and `AllocError` is the answer of
+/// one that has.
+pub fn open_long(
+    alloc: Global,
+    key: &[u8; 32],
+    nonce: &[u8; 12],
+    ciphertext: &[u8],
+    tag: &[u8],
+) -> Result<Option<Vec<u8>>, AllocError>
+    ensures value { IfOk result (λ plain. MatchOption plain (tag.now ≢ tag_of key.now nonce.now ciphertext.now) (λ bytes.
+        (tag.now ≡ tag_of key.now nonce.now ciphertext.now) × (bytes.items ≡ chacha20_encrypt key.now 1 nonce.now ciphertext.now))) }
+    ensures memory { IfErr result (λ _. tag.now ≡ tag_of key.now nonce.now ciphertext.now) }
+{
+    match copied(alloc, ciphertext) {
+        Ok(bytes) => Ok(verified(key, nonce, ciphertext, tag, bytes)),
+        Err(refused) => {
+            if verifies(key, nonce, ciphertext, tag) {
+                return Err(refused);
+            }
+            Ok(None)
+        }
+    }
 }
