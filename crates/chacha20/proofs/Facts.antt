@@ -62,7 +62,8 @@ pub length-chacha20_encrypt : (key : List ℕ) (counter : ℕ) (nonce text : Lis
 unfolding chacha20_encrypt
 length-chacha20_encrypt key counter nonce text = length-encrypted key counter nonce 0 text
 
-pub chacha20_encrypt-bytes : (key : List ℕ) (counter : ℕ) (nonce text : List ℕ) → All IsByte text → All IsByte (chacha20_encrypt key counter nonce text)
+pub chacha20_encrypt-bytes : (key : List ℕ) (counter : ℕ) (nonce text : List ℕ) → All IsByte text
+    → All IsByte (chacha20_encrypt key counter nonce text)
 unfolding chacha20_encrypt
 chacha20_encrypt-bytes key counter nonce text h = encrypted-bytes key counter nonce 0 text h
 
@@ -120,6 +121,7 @@ block_of_zeros key counter nonce fits =
     let within : k < 64 = omega (arith, length-encrypted key counter nonce 0 zeros, size) in
     let number : (counter + (0 + k) / 64) % 2 ^ 32 ≡ counter = omega arith in
     let place : (0 + k) % 64 ≡ k = omega arith in
-    get_or-encrypted key counter nonce 0 zeros k (omega (arith, size)) ∙ ap (λ z. bit_xor z (keystream_byte key counter nonce (0 + k))) (get_or-replicate 64 k 0 0 within)
+    get_or-encrypted key counter nonce 0 zeros k (omega (arith, size))
+    ∙ ap (λ z. bit_xor z (keystream_byte key counter nonce (0 + k))) (get_or-replicate 64 k 0 0 within)
     ∙ xor_zero_l (keystream_byte key counter nonce (0 + k))
     ∙ ap (λ n. get_or (chacha20_block key n nonce) ((0 + k) % 64) 0) number ∙ ap (λ p. get_or (chacha20_block key counter nonce) p 0) place)

@@ -58,7 +58,8 @@ slice_index-lane states j k = get_or-map (λ words. slice_index words j) states 
 -- words that are quarter rounds in a lane, written at four places
 pub lane-quarter_round_on : (states : List (List ℕ)) (x y z w : ℕ) (q : List ℕ × List ℕ × List ℕ × List ℕ) (j : ℕ)
     → ◌≡◌ {A = ℕ × ℕ × ℕ × ℕ} (slice_index q.0 j, slice_index q.1 j, slice_index q.2 j, slice_index q.3 j)
-    (quarter_round (slice_index (get_or states x []) j) (slice_index (get_or states y []) j) (slice_index (get_or states z []) j) (slice_index (get_or states w []) j))
+    (quarter_round (slice_index (get_or states x []) j) (slice_index (get_or states y []) j) (slice_index (get_or states z []) j)
+    (slice_index (get_or states w []) j))
     → lane j (set (set (set (set states x q.0) y q.1) z q.2) w q.3) ≡ quarter_round_on (lane j states) x y z w
 lane-quarter_round_on states x y z w q j e =
     let words : ◌≡◌ {A = ℕ × ℕ × ℕ × ℕ} (slice_index q.0 j, slice_index q.1 j, slice_index q.2 j, slice_index q.3 j)
@@ -121,11 +122,13 @@ turned_word n h =
 -- the words of bytes of which the last of each four stands before the others
 lane_of_turned : (bytes : List ℕ) → ((k : ℕ) → get_or bytes k 0 < 256) → (j : ℕ) → j < 8
     → slice_index (digits_l (2 ^ 32) 8 (number_l 256 (pick_l 0 bytes turned_places))) j
-    ≡ get_or bytes (4 * j + 3) 0 + 256 * (get_or bytes (4 * j + 0) 0 + 256 * (get_or bytes (4 * j + 1) 0 + 256 * (get_or bytes (4 * j + 2) 0 + 256 * 0)))
+    ≡ get_or bytes (4 * j + 3) 0 + 256 * (get_or bytes (4 * j + 0) 0 + 256
+    * (get_or bytes (4 * j + 1) 0 + 256 * (get_or bytes (4 * j + 2) 0 + 256 * 0)))
 lane_of_turned bytes below j h =
     get_or_wider 256 4 (2 ^ 32) 8 (pick_l 0 bytes turned_places) j refl (each-picked (λ x. x < 256) bytes below turned_places) h
     ∙ each_lane (λ j. number_l 256 (chunk (4 * j) 4 (pick_l 0 bytes turned_places))
-    ≡ get_or bytes (4 * j + 3) 0 + 256 * (get_or bytes (4 * j + 0) 0 + 256 * (get_or bytes (4 * j + 1) 0 + 256 * (get_or bytes (4 * j + 2) 0 + 256 * 0))))
+    ≡ get_or bytes (4 * j + 3) 0 + 256 * (get_or bytes (4 * j + 0) 0 + 256
+    * (get_or bytes (4 * j + 1) 0 + 256 * (get_or bytes (4 * j + 2) 0 + 256 * 0))))
     refl refl refl refl refl refl refl refl j h
 
 -- a shuffle of bytes is a rotation by 8 bits
@@ -137,7 +140,8 @@ turned_words words size fit j h =
     let byte : (i : ℕ) → i < 4 → get_or bytes (4 * j + i) 0 ≡ get_or words j 0 / 256 ^ i % 256
     = λ i small. get_or_narrower (2 ^ 32) 4 256 32 words j i refl fit small (omega arith) in
     let n = get_or words j 0 in
-    let four : get_or bytes (4 * j + 3) 0 + 256 * (get_or bytes (4 * j + 0) 0 + 256 * (get_or bytes (4 * j + 1) 0 + 256 * (get_or bytes (4 * j + 2) 0 + 256 * 0)))
+    let four : get_or bytes (4 * j + 3) 0 + 256
+    * (get_or bytes (4 * j + 0) 0 + 256 * (get_or bytes (4 * j + 1) 0 + 256 * (get_or bytes (4 * j + 2) 0 + 256 * 0)))
     ≡ n / 256 ^ 3 % 256 + 256 * (n / 256 ^ 0 % 256 + 256 * (n / 256 ^ 1 % 256 + 256 * (n / 256 ^ 2 % 256 + 256 * 0)))
     = rw (byte 3 (lit< tt), byte 0 (lit< tt), byte 1 (lit< tt), byte 2 (lit< tt)) refl in
     lane_of_turned bytes (λ k. digit-below 256 32 (number_l (2 ^ 32) words) k (lit< tt)) j h
@@ -155,7 +159,8 @@ bytes_rotate d a ld la fits_d fits_a j h =
     = λ i small. get_or-zip2 bit_xor d a i 0 0 0 (omega arith) (omega arith) in
     let fit : Each1 (λ x. x < 2 ^ 32) words = Each1-from_get_or (λ x. x < 2 ^ 32) words 0 (λ i small.
     rw (at i (omega arith)) (xor_lt 32 (get_or d i 0) (get_or a i 0)
-    (Each1-get_or (λ x. x < 2 ^ 32) d i 0 (omega arith) (below_from_Fits w32 d fits_d)) (Each1-get_or (λ x. x < 2 ^ 32) a i 0 (omega arith) (below_from_Fits w32 a fits_a)))) in
+    (Each1-get_or (λ x. x < 2 ^ 32) d i 0 (omega arith) (below_from_Fits w32 d fits_d))
+    (Each1-get_or (λ x. x < 2 ^ 32) a i 0 (omega arith) (below_from_Fits w32 a fits_a)))) in
     ap (λ xs. slice_index (digits_l (2 ^ 32) 8 (number_l 256 xs)) j) (pick_l_left 0 bytes bytes 32 turned_places refl tt)
     ∙ turned_words words size fit j h
     ∙ ap (λ n. rotate_left w32 n 8) (at j h)
@@ -163,17 +168,22 @@ bytes_rotate d a ld la fits_d fits_a j h =
 -- a lane of eight vectors
 abbrev pub column : List (List ℕ) → ℕ → List ℕ
 column columns j =
-    slice_index (get_or columns 0 []) j ∷ slice_index (get_or columns 1 []) j ∷ slice_index (get_or columns 2 []) j ∷ slice_index (get_or columns 3 []) j
-    ∷ slice_index (get_or columns 4 []) j ∷ slice_index (get_or columns 5 []) j ∷ slice_index (get_or columns 6 []) j ∷ slice_index (get_or columns 7 []) j ∷ []
+    slice_index (get_or columns 0 []) j ∷ slice_index (get_or columns 1 []) j ∷ slice_index (get_or columns 2 []) j
+    ∷ slice_index (get_or columns 3 []) j
+    ∷ slice_index (get_or columns 4 []) j ∷ slice_index (get_or columns 5 []) j ∷ slice_index (get_or columns 6 []) j
+    ∷ slice_index (get_or columns 7 []) j ∷ []
 
 pub column-at : (columns : List (List ℕ)) (j k : ℕ) → k < 8 → slice_index (column columns j) k ≡ slice_index (get_or columns k []) j
-column-at columns j k h = each_lane (λ k. slice_index (column columns j) k ≡ slice_index (get_or columns k []) j) refl refl refl refl refl refl refl refl k h
+column-at columns j k h = each_lane (λ k. slice_index (column columns j) k ≡ slice_index (get_or columns k []) j) refl refl refl refl refl refl
+    refl refl k h
 
 -- eight vectors and eight more
 abbrev pub joined : List (List ℕ) → List (List ℕ) → List (List ℕ)
 joined fronts backs =
-    get_or fronts 0 [] ∷ get_or fronts 1 [] ∷ get_or fronts 2 [] ∷ get_or fronts 3 [] ∷ get_or fronts 4 [] ∷ get_or fronts 5 [] ∷ get_or fronts 6 [] ∷ get_or fronts 7 []
-    ∷ get_or backs 0 [] ∷ get_or backs 1 [] ∷ get_or backs 2 [] ∷ get_or backs 3 [] ∷ get_or backs 4 [] ∷ get_or backs 5 [] ∷ get_or backs 6 [] ∷ get_or backs 7 [] ∷ []
+    get_or fronts 0 [] ∷ get_or fronts 1 [] ∷ get_or fronts 2 [] ∷ get_or fronts 3 [] ∷ get_or fronts 4 [] ∷ get_or fronts 5 []
+    ∷ get_or fronts 6 [] ∷ get_or fronts 7 []
+    ∷ get_or backs 0 [] ∷ get_or backs 1 [] ∷ get_or backs 2 [] ∷ get_or backs 3 [] ∷ get_or backs 4 [] ∷ get_or backs 5 [] ∷ get_or backs 6 []
+    ∷ get_or backs 7 [] ∷ []
 
 pub front_of : (fronts backs : List (List ℕ)) (j k : ℕ) → j < 8 → slice_index (lane k (joined fronts backs)) j ≡ slice_index (lane k fronts) j
 front_of fronts backs j k h =

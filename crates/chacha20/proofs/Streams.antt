@@ -49,8 +49,10 @@ module _ (key : List ℕ) (counter : ℕ) (nonce : List ℕ) where
       → IsEncryptedTo key counter nonce from text p bytes → IsEncryptedTo key counter nonce from text q bytes
   past from text bytes p q h l e =
       let long = length-encrypted_to from text bytes p e in
-      e ∙ ap (λ xs. encrypted_from key counter nonce from xs ++ drop p text) (take_all p text (omega (arith, long)) ∙ sym (take_all q text (omega (arith, long))))
-      ∙ ap (λ xs. encrypted_from key counter nonce from (take q text) ++ xs) (drop_all p text (omega (arith, long)) ∙ sym (drop_all q text (omega (arith, long))))
+      e ∙ ap (λ xs. encrypted_from key counter nonce from xs ++ drop p text)
+      (take_all p text (omega (arith, long)) ∙ sym (take_all q text (omega (arith, long))))
+      ∙ ap (λ xs. encrypted_from key counter nonce from (take q text) ++ xs)
+      (drop_all p text (omega (arith, long)) ∙ sym (drop_all q text (omega (arith, long))))
 
   -- a text that is encrypted to its end
   pub to_end : (from : ℕ) (text bytes : List ℕ) (p : ℕ) → length text ≤ p → IsEncryptedTo key counter nonce from text p bytes
@@ -71,7 +73,8 @@ module _ (key : List ℕ) (counter : ℕ) (nonce : List ℕ) where
       e (is k h ∙ given k h ∙ ap (λ p. keystream_byte key counter nonce p) place))
 
   -- k bytes more, encrypted by themselves
-  pub blocks_more : (text bytes part : List ℕ) (a k n : ℕ) → a ≤ length text → n ≡ a + k → part ≡ encrypted_from key counter nonce a (mid_of a k bytes)
+  pub blocks_more : (text bytes part : List ℕ) (a k n : ℕ) → a ≤ length text → n ≡ a + k
+      → part ≡ encrypted_from key counter nonce a (mid_of a k bytes)
       → IsEncryptedTo key counter nonce 0 text a bytes → IsEncryptedTo key counter nonce 0 text n (put_mid a k bytes part)
   blocks_more text bytes part a k n h size new e =
       let done = encrypted_from key counter nonce 0 (take a text) in
@@ -99,7 +102,8 @@ module _ (key : List ℕ) (counter : ℕ) (nonce : List ℕ) where
       ]
 
   -- no byte is left
-  pub none_left : (text bytes : List ℕ) (p : ℕ) → length text ≤ p → IsEncryptedTo key counter nonce 0 text p bytes → bytes ≡ chacha20_encrypt key counter nonce text
+  pub none_left : (text bytes : List ℕ) (p : ℕ) → length text ≤ p → IsEncryptedTo key counter nonce 0 text p bytes
+      → bytes ≡ chacha20_encrypt key counter nonce text
   unfolding chacha20_encrypt
   none_left text bytes p h e = to_end 0 text bytes p h e
 

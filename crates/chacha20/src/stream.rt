@@ -54,7 +54,8 @@ fn combine_words(bytes: &mut [u8], len: usize, blocks: &[u32x8; 16])
 pub fn apply_blocks(before: &[u32x8; 16], states: &[u32x8; 16], bytes: &mut [u8])
     requires { length bytes.old ≤ BLOCKS }
     ensures length { length bytes.new ≡ length bytes.old }
-    ensures encrypts { (key : List ℕ) (counter : ℕ) (nonce : List ℕ) (n : ℕ) → HasDone key ((counter + 8 * n % 2 ^ 32) % 2 ^ 32) nonce 10 before.now states.now
+    ensures encrypts { (key : List ℕ) (counter : ℕ) (nonce : List ℕ) (n : ℕ)
+        → HasDone key ((counter + 8 * n % 2 ^ 32) % 2 ^ 32) nonce 10 before.now states.now
         → bytes.new ≡ encrypted_from key counter nonce (512 * n) bytes.old }
 {
     let blocks = words_of(before, states);

@@ -1,23 +1,12 @@
 -- A ciphertext that is made group by group, and what its tag was given.
-use Rattle.std.proofs.Common.{◌≡◌, ◌∙◌, ap, sym, ℕ, ◌+◌, ◌-◌, ◌*◌, ◌/◌, ◌%◌, ◌^◌, ◌<◌, ◌≤◌, List, ◌++◌, length, take, drop, arith, length-append}
-use Rattle.std.proofs.lemmas.List.{length-take-le, take_at, drop_at, take-append-drop, take-append-le, take-take}
-use Rattle.std.proofs.lemmas.Slice.{between_to_end}
-use Rattle.std.proofs.Math.Seq.{take-add}
+use Rattle.std.proofs.Common.{◌≡◌, ◌∙◌, ap, refl, sym, inl, inr, ℕ, ◌+◌, ◌-◌, ◌*◌, ◌/◌, ◌%◌, ◌^◌, ◌<◌, ◌≤◌, List, ◌++◌, length, take, drop, arith, length-append}
+use Rattle.std.proofs.lemmas.Bool.{cases_lt}
+use Rattle.std.proofs.lemmas.List.{length-take-le, take_all, take_at, drop_at, take-append-drop, take-append-le, take-take}
 use Rattle.chacha20.specs.Blocks.{IsEncryptedTo}
 use Rattle.chacha20.specs.Encryption.{chacha20_encrypt, encrypted_from}
 use Rattle.chacha20.proofs.Facts.{chacha20_encrypt-append, length-chacha20_encrypt}
 use Rattle.chacha20.proofs.Streams.{length-encrypted}
-
--- the groups before another, and that
-pub group_before : (n : ℕ) (bytes : List ℕ) → 0 < n
-    → take (512 * (n - 1)) bytes ++ take (512 * n - (512 * n - 512)) (drop (512 * n - 512) bytes) ≡ take (512 * n) bytes
-group_before n bytes some =
-    let size : 512 * n - (512 * n - 512) ≡ 512 = omega arith in
-    let from : 512 * n - 512 ≡ 512 * (n - 1) = omega arith in
-    let next : 512 * (n - 1) + 512 ≡ 512 * n = omega arith in
-    ap (λ k. take (512 * (n - 1)) bytes ++ take k (drop (512 * n - 512) bytes)) size
-    ∙ ap (λ k. take (512 * (n - 1)) bytes ++ take 512 (drop k bytes)) from
-    ∙ sym (take-add (512 * (n - 1)) 512 bytes) ∙ ap (λ k. take k bytes) next
+use Rattle.poly1305.proofs.Accumulating.{take_part}
 
 -- a plaintext of whole groups that is encrypted, and a piece that isn't yet
 pub with_piece : (key nonce text before piece all : List ℕ) (from : ℕ) → before ≡ chacha20_encrypt key 1 nonce text → all ≡ before ++ piece
@@ -46,7 +35,8 @@ rest_encrypted key nonce text before after w counter within number so_far is =
     let whole : length front ≡ 64 * (8 * w) = omega (arith, long) in
     is ∙ ap (λ xs. xs ++ encrypted_from key counter nonce 0 (drop (512 * w) before)) start
     ∙ ap (λ xs. done ++ encrypted_from key counter nonce 0 xs) rest ∙ ap (λ m. done ++ encrypted_from key m nonce 0 back) place
-    ∙ sym (chacha20_encrypt-append key 1 nonce front back (8 * w) whole) ∙ ap (λ xs. encrypted_from key 1 nonce 0 xs) (take-append-drop (512 * w) text)
+    ∙ sym (chacha20_encrypt-append key 1 nonce front back (8 * w) whole)
+    ∙ ap (λ xs. encrypted_from key 1 nonce 0 xs) (take-append-drop (512 * w) text)
 
 -- a ciphertext whose rest is encrypted keeps its length
 pub length-rest_encrypted : (key nonce before after : List ℕ) (w counter : ℕ)
@@ -54,7 +44,8 @@ pub length-rest_encrypted : (key nonce before after : List ℕ) (w counter : ℕ
 length-rest_encrypted key nonce before after w counter is =
     let front = take (512 * w) before in
     let back = drop (512 * w) before in
-    ap length is ∙ length-append front (chacha20_encrypt key counter nonce back) ∙ ap (λ n. length front + n) (length-chacha20_encrypt key counter nonce back)
+    ap length is ∙ length-append front (chacha20_encrypt key counter nonce back)
+    ∙ ap (λ n. length front + n) (length-chacha20_encrypt key counter nonce back)
     ∙ sym (length-append front back) ∙ ap length (take-append-drop (512 * w) before)
 
 -- its groups before the last whole one are as they were
@@ -79,14 +70,15 @@ front_with_piece before piece all from joined size =
     let count : 512 * (length before / 512 - 1) ≡ 512 * (from - 1) = omega (arith, size) in
     ap (λ k. take k before) count ∙ sym (ap (take (512 * (from - 1))) joined ∙ take-append-le (512 * (from - 1)) before piece (omega (arith, size)))
 
--- one group more
-pub group_more : (n : ℕ) (bytes : List ℕ) → take (512 * n) bytes ++ take (512 * n + 512 - 512 * n) (drop (512 * n) bytes) ≡ take (512 * (n + 1)) bytes
-group_more n bytes =
-    let size : 512 * n + 512 - 512 * n ≡ 512 = omega arith in
-    let next : 512 * n + 512 ≡ 512 * (n + 1) = omega arith in
-    ap (λ k. take (512 * n) bytes ++ take k (drop (512 * n) bytes)) size ∙ sym (take-add (512 * n) 512 bytes) ∙ ap (λ k. take k bytes) next
-
--- the whole groups, and what follows them
-pub whole_text : (bytes : List ℕ) (n : ℕ) → 512 * n ≤ length bytes → take (512 * n) bytes ++ take (length bytes - 512 * n) (drop (512 * n) bytes) ≡ bytes
-whole_text bytes n within =
-    ap (λ xs. take (512 * n) bytes ++ xs) (between_to_end bytes (512 * n) (length bytes) (omega arith)) ∙ take-append-drop (512 * n) bytes
+-- what stands before a piece, and the piece: 4,096 bytes of a text, or all that is left
+pub text_more : (text : List ℕ) (n k : ℕ) → 512 + 4096 * n + k ≤ length text → k ≤ 4096 → (k < 4096 → 512 + 4096 * n + k ≡ length text)
+    → take (512 + 4096 * n) text ++ take k (drop (512 + 4096 * n) text) ≡ take (512 + 4096 * (n + 1)) text
+text_more text n k within fits last =
+    let at = 512 + 4096 * n in
+    let next = 512 + 4096 * (n + 1) in
+    take_part text at k (at + k) refl ∙ elim (cases_lt k 4096) [
+      | inl below ↦ take_all (at + k) text (omega (arith, last below)) ∙ sym (take_all next text (omega (arith, last below)))
+      | inr reached ↦
+          let same : at + k ≡ next = omega arith in
+          ap (λ m. take m text) same
+    ]

@@ -1,3 +1,2 @@
 mod Groups
-mod Pieces
 pub mod Seals

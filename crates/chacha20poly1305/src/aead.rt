@@ -1,29 +1,15 @@
 //! Sealing and opening (RFC 8439, 2.8).
-ghost use Rattle.std.specs.Prelude.{◌≡◌, ◌+◌, ◌*◌, ◌<◌, ◌≤◌, ◌++◌, IfErr, IfOk, IsSome, drop, length, option_map, take, vec_capacity, vec_items};
+ghost use Rattle.std.specs.Prelude.{◌≡◌, ◌+◌, ◌<◌, ◌≤◌, ◌++◌, IfErr, IfOk, IsSome, drop, length, option_map, take, vec_capacity, vec_items};
 ghost use Rattle.chacha20.specs.Encryption.{chacha20_encrypt};
 ghost use Rattle.chacha20poly1305.specs.Aead.{opened, seal_of};
 
-use crate::sealing::{open_long, seal_long};
+use crate::sealing::{LONG, open_long, seal_long};
 use crate::tag::{tag, verifies};
 use chacha20::apply_keystream;
 use std::alloc::{AllocError, Global};
 
+/// How many bytes a tag has.
 pub const TAG: usize = 16;
-
-/// How many bytes are copied and encrypted at once: whole blocks, and an eighth of the first cache.
-pub const PIECE: usize = 4096;
-
-/// How many pieces a text of so many bytes has, with one that isn't whole.
-pub fn pieces_of(len: usize) -> usize
-    ensures reach { len ≤ PIECE * result }
-    ensures begun { PIECE * result < len + PIECE }
-{
-    let whole = len / PIECE;
-    if PIECE * whole < len {
-        return whole + 1;
-    }
-    whole
-}
 
 /// Encrypts the bytes from a place on, in place.
 pub fn encrypt_from(key: &[u8; 32], counter: u32, nonce: &[u8; 12], bytes: &mut [u8], start: usize)
@@ -33,25 +19,23 @@ pub fn encrypt_from(key: &[u8; 32], counter: u32, nonce: &[u8; 12], bytes: &mut 
     apply_keystream(key, counter, nonce, &mut bytes[start..]);
 }
 
-/// Appends a piece of a text, encrypted from the block of this counter on.
+/// Appends a text, encrypted from block 1 on.
 pub fn append_encrypted(
     bytes: &mut Vec<u8>,
     key: &[u8; 32],
-    counter: u32,
     nonce: &[u8; 12],
-    piece: &[u8],
+    text: &[u8],
 ) -> Result<(), AllocError>
-    ensures value { IfOk result (λ _. bytes.new.items ≡ bytes.old.items ++ chacha20_encrypt key.now counter nonce.now piece.now) }
+    ensures value { IfOk result (λ _. bytes.new.items ≡ bytes.old.items ++ chacha20_encrypt key.now 1 nonce.now text.now) }
     ensures capacity { vec_capacity bytes.old ≤ vec_capacity bytes.new }
 {
     let start = bytes.len();
-    bytes.extend_from_slice(piece)?;
-    encrypt_from(key, counter, nonce, bytes, start);
+    bytes.extend_from_slice(text)?;
+    encrypt_from(key, 1, nonce, bytes, start);
     Ok(())
 }
 
 /// A text encrypted, which decrypts it too, in a list with room for so many bytes more. Memory is taken once, or not at all for none.
-// (a piece is encrypted while the copy of it is still in the processor's first cache)
 fn encrypted(
     alloc: Global,
     key: &[u8; 32],
@@ -64,11 +48,7 @@ fn encrypted(
     ensures room { IfOk result (λ bytes. length text.now + room ≤ vec_capacity bytes) }
 {
     let mut bytes = Vec::with_capacity(alloc, text.len() + room)?;
-    'pieces: for n in 0..pieces_of(text.len()) {
-        let end = text.len().min(PIECE * n + PIECE);
-        let counter = 1u32.wrapping_add((PIECE / 64 * n % 0x1_0000_0000) as u32);
-        append_encrypted(&mut bytes, key, counter, nonce, &text[PIECE * n..end])?;
-    }
+    append_encrypted(&mut bytes, key, nonce, text)?;
     Ok(bytes)
 }
 
@@ -87,8 +67,7 @@ pub fn seal(
 ) -> Result<Vec<u8>, AllocError>
     ensures { IfOk result (λ sealed. sealed.items ≡ seal_of key.now nonce.now plain.now) }
 {
-    // (the powers of r that are made first don't pay for a shorter one)
-    if plain.len() >= PIECE {
+    if plain.len() >= LONG {
         return seal_long(alloc, key, nonce, plain);
     }
     let mut sealed = encrypted(alloc, key, nonce, plain, TAG)?;
@@ -118,7 +97,7 @@ pub fn open(
         return Ok(None);
     }
     let (ciphertext, tag) = sealed.split_at(sealed.len() - TAG);
-    if ciphertext.len() >= PIECE {
+    if ciphertext.len() >= LONG {
         return open_long(alloc, key, nonce, ciphertext, tag);
     }
     if !verifies(key, nonce, ciphertext, tag) {

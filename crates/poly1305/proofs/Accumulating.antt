@@ -1,5 +1,5 @@
 -- The accumulator over a text that grows.
-use Rattle.std.proofs.Common.{◌≡◌, ℕ, zero, suc, ◌+◌, ◌-◌, ◌*◌, ◌/◌, ◌%◌, ◌^◌, ◌<◌, ◌≤◌, ◌≢◌, List, [], ◌++◌, length, take, drop, refl, sym, ap, ◌∙◌, arith, length-append, length-drop, take-add}
+use Rattle.std.proofs.Common.{◌≡◌, ℕ, zero, suc, ◌+◌, ◌*◌, ◌/◌, ◌%◌, ◌^◌, ◌<◌, ◌≤◌, ◌≢◌, List, [], ◌++◌, length, take, drop, refl, sym, ap, ◌∙◌, arith, length-append, length-drop, take-add}
 use Rattle.std.proofs.lemmas.List.{append-nil, take-append-le, drop-append-le, take_all, drop_all}
 use Rattle.std.proofs.lemmas.Nat.{mul-mod_first}
 use Rattle.std.proofs.Math.Nat.{mod-add-mod, mod-mod}
@@ -120,12 +120,9 @@ step next h m r before block factor is same_h same_m same_r = rw (← same_h, �
 pub summed : (h before s summand : ℕ) → h ≡ before → s ≡ summand → (h % 2 ^ 128 + s) % 2 ^ 128 ≡ (before + summand) % 2 ^ 128
 summed h before s summand same_h same_s = rw (same_h, same_s) (mod-add-mod before (2 ^ 128) summand)
 
--- the blocks of a text, and the next one
-pub take_more_block : (text : List ℕ) (i : ℕ) → take (16 * i) text ++ take (16 * i + 16 - 16 * i) (drop (16 * i) text) ≡ take (16 * (i + 1)) text
-take_more_block text i =
-    let size : 16 * i + 16 - 16 * i ≡ 16 = omega arith in
-    let next : 16 * (i + 1) ≡ 16 * i + 16 = omega arith in
-    rw (size, next) (sym (take-add (16 * i) 16 text))
+-- the front of a text, and the part that follows it
+pub take_part : (text : List ℕ) (from size to : ℕ) → from + size ≡ to → take from text ++ take size (drop from text) ≡ take to text
+take_part text from size to same = sym (take-add from size text) ∙ ap (λ n. take n text) same
 
 -- a list whose end is written over
 pub put_to_end : (a k : ℕ) (xs ys : List ℕ) → length xs ≤ a + k → put_mid a k xs ys ≡ take a xs ++ ys

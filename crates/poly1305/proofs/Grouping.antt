@@ -1,5 +1,5 @@
 -- Groups of blocks in one step, by powers of r.
-use Rattle.std.proofs.Common.{◌≡◌, ◌≢◌, ℕ, suc, ◌+◌, ◌-◌, ◌*◌, ◌/◌, ◌%◌, ◌^◌, ◌<◌, ◌≤◌, List, ◌++◌, Some, length, take, drop, set, get_or, replicate, refl, sym, ap, subst, inl, inr, ◌∙◌, arith, add_assoc, mul_assoc, length-append, length-drop, take-add}
+use Rattle.std.proofs.Common.{◌≡◌, ◌≢◌, ℕ, suc, ◌+◌, ◌-◌, ◌*◌, ◌/◌, ◌%◌, ◌^◌, ◌<◌, ◌≤◌, List, ◌++◌, Some, length, take, drop, set, get_or, replicate, refl, sym, ap, subst, inl, inr, ◌∙◌, arith, add_assoc, mul_assoc, length-append, length-drop}
 use Rattle.std.proofs.lemmas.Bool.{cases_lt}
 use Rattle.std.proofs.lemmas.List.{append_assoc, get_or-set_same, get_or-set_other, get_or-replicate, length-replicate, length-set, length-take-le, take_all}
 use Rattle.std.proofs.lemmas.Nat.{mul-mod_first}
@@ -9,7 +9,7 @@ use Rattle.std.specs.Prelude.{slice_get}
 use Rattle.poly1305.specs.declared.groups.Multiplier.{Multiplier}
 use Rattle.poly1305.specs.Mac.{accumulated, block_number, prime}
 use Rattle.poly1305.specs.Groups.{bits_beyond, IsAccumulator, IsScaled}
-use Rattle.poly1305.proofs.Accumulating.{accumulated-mod, accumulated_whole, take_more_block}
+use Rattle.poly1305.proofs.Accumulating.{accumulated-mod, accumulated_whole, take_part}
 use Rattle.poly1305.proofs.Multiplying.{congruent_product, congruent_sum}
 
 -- the accumulator times a power of r, and the bits beyond all blocks
@@ -26,11 +26,13 @@ same_power : (r n a m : ℕ) → a * r ^ suc n + m * r ^ suc n ≡ ((a + m) * r)
 same_power r n a m = sym (add-mul a m (r ^ suc n)) ∙ ap (λ k. (a + m) * k) (pow-succ' r n) ∙ sym (mul_assoc (a + m) r (r ^ n))
 
 -- the bit beyond a block's bytes joins them
-bit_joins : (r n before m : ℕ) → bits_beyond r (suc n) + before * r ^ suc n + m * r ^ suc n ≡ bits_beyond r n + (before * r ^ suc n + (m + 2 ^ 128) * r ^ suc n)
+bit_joins : (r n before m : ℕ) → bits_beyond r (suc n) + before * r ^ suc n + m * r ^ suc n
+    ≡ bits_beyond r n + (before * r ^ suc n + (m + 2 ^ 128) * r ^ suc n)
 unfolding bits_beyond
 bit_joins r n before m = regrouped (r ^ suc n) (bits_beyond r n) before m
   where
-    regrouped : (power beyond before m : ℕ) → 2 ^ 128 * power + beyond + before * power + m * power ≡ beyond + (before * power + (m + 2 ^ 128) * power)
+    regrouped : (power beyond before m : ℕ) → 2 ^ 128 * power + beyond + before * power + m * power
+        ≡ beyond + (before * power + (m + 2 ^ 128) * power)
     regrouped power beyond before m = omega arith
 
 -- one more block, times the same power of r
@@ -45,7 +47,8 @@ scaled_more r n number power block next text bytes size is_block is_power is_nex
       value = is_next ∙ congruent_sum number (block * power) (bits_beyond r (suc n) + before * r ^ suc n) (block * r ^ suc n) is.value
           (congruent_product block power (r ^ suc n) is_power)
           ∙ ap (λ k. k % prime) (bit_joins r n before block ∙ ap (λ k. bits_beyond r n + k) (same_power r n before whole))
-          ∙ congruent_sum (bits_beyond r n) (((before + whole) * r) * r ^ n) (bits_beyond r n) (accumulated r (text ++ bytes) (length (text ++ bytes) / 16) * r ^ n) refl (
+          ∙ congruent_sum (bits_beyond r n) (((before + whole) * r) * r ^ n) (bits_beyond r n)
+          (accumulated r (text ++ bytes) (length (text ++ bytes) / 16) * r ^ n) refl (
           sym (mul-mod_first ((before + whole) * r) (r ^ n) prime)
           ∙ ap (λ m. (((before + m) * r) % prime * r ^ n) % prime) is_block
           ∙ ap (λ a. (a * r ^ n) % prime) (sym (accumulated_whole r text bytes is.whole size)));
@@ -66,7 +69,8 @@ scaled_block r blocks i number power block next text group few within size is_bl
     let bytes = take (16 * i + 16 - 16 * i) (drop (16 * i) group) in
     let long : length bytes ≡ 16 = length-take-le (16 * i + 16 - 16 * i) (drop (16 * i) group) (omega (arith, length-drop (16 * i) group)) ∙ count in
     let joined : done ++ bytes ≡ text ++ take (16 * (i + 1)) group =
-    append_assoc text (take (16 * i) group) bytes ∙ ap (λ l. text ++ l) (take_more_block group i) in
+    append_assoc text (take (16 * i) group) bytes
+    ∙ ap (λ l. text ++ l) (take_part group (16 * i) (16 * i + 16 - 16 * i) (16 * (i + 1)) (omega arith)) in
     let step = scaled_more r n number power block next done bytes long is_block (is_power ∙ ap (λ k. r ^ k % prime) place) is_next
     (subst (λ (k : ℕ). IsScaled r k number (text ++ take (16 * i) group)) before is) in
     subst (λ (l : List ℕ). IsScaled r n next l) joined step
@@ -114,7 +118,8 @@ scaled_last r n number result text none is_result is =
     let end = accumulated r text (length text / 16) in
     record {
       whole = last.whole;
-      value = is_result ∙ last.value ∙ ap (λ k. k % prime) (nothing_beyond r (end * r ^ 0)) ∙ ap (λ k. (end * k) % prime) (pow-zero r) ∙ ap (λ k. k % prime) (mul-one end)
+      value = is_result ∙ last.value ∙ ap (λ k. k % prime) (nothing_beyond r (end * r ^ 0)) ∙ ap (λ k. (end * k) % prime) (pow-zero r)
+          ∙ ap (λ k. k % prime) (mul-one end)
           ∙ accumulated-mod r text (length text / 16);
     }
 
@@ -126,13 +131,6 @@ scaled_all r blocks i number text group all size is =
     let whole : take (16 * i) group ≡ group = take_all (16 * i) group (omega arith) in
     subst (λ (l : List ℕ). IsScaled r 0 number (text ++ l)) whole
     (subst (λ (k : ℕ). IsScaled r k number (text ++ take (16 * i) group)) none is)
-
--- the groups of a text, and the next one
-pub take_more_group : (text : List ℕ) (i : ℕ) → take (1024 * i) text ++ take (1024 * i + 1024 - 1024 * i) (drop (1024 * i) text) ≡ take (1024 * (i + 1)) text
-take_more_group text i =
-    let size : 1024 * i + 1024 - 1024 * i ≡ 1024 = omega arith in
-    let next : 1024 * (i + 1) ≡ 1024 * i + 1024 = omega arith in
-    rw (size, next) (sym (take-add (1024 * i) 1024 text))
 
 -- the powers of r
 pub first_power : (r number : ℕ) → number ≡ r → number % prime ≡ r ^ 1 % prime

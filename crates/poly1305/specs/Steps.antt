@@ -15,9 +15,9 @@ pub record ArePowersFor (key : List ℕ) (made : Powers) : Type 0 where
   pub powers : ArePowers (clamped (take 16 key)) made.powers
   pub beyond : short_column_number made.beyond % prime ≡ bits_beyond (clamped (take 16 key)) 32 % prime
 
--- how large the sums are after so many steps
-abbrev pub AreTakenTo : ℕ → Steps → Type 0
-AreTakenTo i steps = AreBelow ((4 * i + 66) * 2 ^ 112) steps.columns
+-- the sums are below what so many steps can make
+abbrev pub AreBelowAfter : ℕ → Steps → Type 0
+AreBelowAfter i steps = AreBelow ((4 * i + 66) * 2 ^ 112) steps.columns
 
 -- under this key, after this text, these first bytes of a group are taken
 pub record HasTaken (key text bytes : List ℕ) (steps : Steps) : Type 0 where

@@ -1,5 +1,5 @@
 //! The tag of a text that is given piece by piece (RFC 8439, 2.5).
-ghost use Rattle.std.specs.Prelude.{◌≡◌, ℕ, ◌+◌, ◌/◌, ◌%◌, ◌^◌, ◌<◌, ◌≤◌, ◌↔◌, IsTrue, List, [], ◌++◌, length, take, Some, codes};
+ghost use Rattle.std.specs.Prelude.{◌≡◌, ℕ, ◌+◌, ◌/◌, ◌%◌, ◌<◌, ◌≤◌, ◌↔◌, IsTrue, List, [], ◌++◌, length, take, Some, codes};
 ghost use Rattle.poly1305.specs.Mac.{accumulated, block_count, clamped, poly1305_mac, prime};
 ghost use Rattle.poly1305.specs.Limbs.{number_of, IsFactor};
 
@@ -29,7 +29,7 @@ pub struct Poly1305 {
 
 impl Poly1305 {
     ghost use Rattle.poly1305.specs.Given.{WasGiven};
-    ghost use Rattle.poly1305.specs.Steps.{AreTakenTo, HasTaken, IsUnbegun};
+    ghost use Rattle.poly1305.specs.Steps.{AreBelowAfter, HasTaken, IsUnbegun};
 
     /// The state under a key of 32 bytes, with no text given yet.
     pub fn new(key: &[u8; 32]) -> Poly1305
@@ -85,7 +85,7 @@ impl Poly1305 {
     #[inline(always)]
     pub fn take_group(&mut self, steps: Steps)
         requires unbegun { IsUnbegun self.old }
-        requires below { AreTakenTo 8 steps }
+        requires below { AreBelowAfter 8 steps }
         ensures given { (key text group : List ℕ) → length group ≡ 512 → WasGiven self.old key text → HasTaken key text group steps
             → WasGiven self.new key (text ++ group) }
         ensures unbegun { IsUnbegun self.new }

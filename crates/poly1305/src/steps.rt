@@ -49,13 +49,13 @@ pub struct Steps {
 
 impl Steps {
     ghost use Rattle.poly1305.specs.Given.{WasGiven};
-    ghost use Rattle.poly1305.specs.Steps.{ArePowersFor, AreTakenTo, HasTaken, IsUnbegun};
+    ghost use Rattle.poly1305.specs.Steps.{ArePowersFor, AreBelowAfter, HasTaken, IsUnbegun};
 
     /// Before the first step of a group.
     #[inline(always)]
     pub fn new(state: &Poly1305, powers: &Powers) -> Steps
         requires { IsUnbegun state.now }
-        ensures below { AreTakenTo 0 result }
+        ensures below { AreBelowAfter 0 result }
         ensures taken { (key text : List ℕ) → ArePowersFor key powers.now → WasGiven state.now key text → HasTaken key text [] result }
     {
         Steps {
@@ -68,8 +68,8 @@ impl Steps {
     pub fn step(&mut self, powers: &Powers, group: &[u8], i: usize)
         requires within { i < 8 }
         requires group { length group.now ≡ 512 }
-        requires below { AreTakenTo i self.old }
-        ensures below { AreTakenTo (i + 1) self.new }
+        requires below { AreBelowAfter i self.old }
+        ensures below { AreBelowAfter (i + 1) self.new }
         ensures taken { (key text : List ℕ) → ArePowersFor key powers.now → HasTaken key text (take (64 * i) group.now) self.old
             → HasTaken key text (take (64 * (i + 1)) group.now) self.new }
     {

@@ -18,6 +18,7 @@ returns c = λ key counter nonce done.
     ≡ slice_index (block_words key ((counter + j) % 2 ^ 32) nonce) k
     = λ j k h l. block_words-at key _ nonce (lane j after) (lane j before) k l (done.first j h) (done.done j h) in
     record {
-      front = λ j k h l. front_of fronts backs j k h ∙ c.transposed-fronts.ensures j k h l ∙ c.sums.ensures j k h l ∙ rw zero-add (word j k h (omega arith));
+      front = λ j k h l. front_of fronts backs j k h ∙ c.transposed-fronts.ensures j k h l ∙ c.sums.ensures j k h l
+          ∙ rw zero-add (word j k h (omega arith));
       back = λ j k h l. back_of fronts backs j k h ∙ c.transposed-backs.ensures j k h l ∙ c.sums-2.ensures j k h l ∙ word j (8 + k) h (omega arith);
     }

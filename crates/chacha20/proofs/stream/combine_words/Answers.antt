@@ -12,7 +12,8 @@ places-preserved c =
     let next : 64 * (j + 1) ≡ 64 * j + 32 + 32 = omega arith in (
       c.combine-in-places.ensures.length ∙ c.combine.ensures.length ∙ c.places.invariant.0,
       λ key counter nonce n are.
-          rw next (c.combine-in-places.ensures.encrypts key counter nonce (512 * n) c.args.bytes.now (back_from key counter nonce blocks n j (omega arith) are)
+          rw next (c.combine-in-places.ensures.encrypts key counter nonce (512 * n) c.args.bytes.now
+          (back_from key counter nonce blocks n j (omega arith) are)
           (c.combine.ensures.encrypts key counter nonce (512 * n) c.args.bytes.now (front_from key counter nonce blocks n j (omega arith) are)
           (c.places.invariant.1 key counter nonce n are))),
     )

@@ -2,6 +2,7 @@ use Rattle.std.proofs.Common.{◌≡◌, ◌+◌, ◌-◌, ◌*◌, ◌/◌, ◌
 use Rattle.chacha20.specs.Blocks.{IsEncryptedTo}
 use Rattle.chacha20.proofs.Streams.{length-encrypted_to}
 use Rattle.poly1305.specs.Given.{WasGiven}
+use Rattle.poly1305.proofs.Accumulating.{take_part}
 use Rattle.chacha20poly1305.proofs.Groups.{front_kept, length-rest_encrypted, rest_encrypted}
 use Rattle.chacha20poly1305.proofs.sealing.encrypt_groups.Goals as goal
 
@@ -10,13 +11,21 @@ groups-init c = (refl, c.requires.unbegun, λ text is. is, λ one powers given. 
 
 pub groups-preserved : goal.groups-preserved
 groups-preserved c =
+    let key = c.args.key.now in
+    let nonce = c.args.nonce.now in
     let n = c.groups.n in
-    let next : n ≡ n + 1 - 1 = omega arith in (
-      c.encrypt_group.ensures.length ∙ c.groups.invariant.0,
-      c.encrypt_group.ensures.unbegun,
-      λ text is. c.encrypt_group.ensures.encrypted text (c.groups.invariant.2 text is),
-      λ one powers given. subst (λ (k : ℕ). WasGiven c.encrypt_group.new.state one (take (512 * k) c.encrypt_group.new.bytes)) next
-          (c.encrypt_group.ensures.given one powers (c.groups.invariant.3 one powers given)),
+    let done = c.rounds_beside.ensures.rounds key nonce _ _
+    (c.next_round-in-groups.ensures key nonce _ 1 _ (c.next_round.ensures key nonce _ 0 _ c.states_of-before.ensures)) in
+    let bytes = c.groups.bytes in
+    let next : n ≡ n + 1 - 1 = omega arith in
+    let group = take_part bytes (512 * (n - 1)) (512 * n - 512 * (n - 1)) (512 * n) (omega (arith, c.requires.within.0)) in (
+      c.combine_group.ensures.length ∙ c.groups.invariant.0,
+      c.rounds_beside.ensures.unbegun,
+      λ text is. c.combine_group.ensures.encrypted key nonce text done
+          (c.groups.invariant.2 text is),
+      λ one powers given. subst (λ (k : ℕ). WasGiven c.rounds_beside.new.state one (take (512 * k) c.combine_group.new.bytes)) next (
+          subst (λ (t : List ℕ). WasGiven c.rounds_beside.new.state one t) (group ∙ sym c.combine_group.ensures.front)
+          (c.rounds_beside.ensures.given one _ powers (c.groups.invariant.3 one powers given))),
     )
 
 pub returns-clause-encrypted : goal.returns-clause-encrypted
@@ -39,4 +48,5 @@ returns-clause-given c = λ one powers given.
 
 pub returns-clause-length : goal.returns-clause-length
 returns-clause-length c =
-    length-rest_encrypted c.args.key.now c.args.nonce.now c.groups.bytes _ (length c.args.bytes.now / 512) _ c.encrypt_from.ensures ∙ c.groups.invariant.0
+    length-rest_encrypted c.args.key.now c.args.nonce.now c.groups.bytes _ (length c.args.bytes.now / 512) _ c.encrypt_from.ensures
+    ∙ c.groups.invariant.0

@@ -9,6 +9,7 @@ abbrev pub invariant-groups : goal.invariant-groups
 invariant-groups l =
     (length l.bytes ≡ length l.fn.bytes)
     × IsUnbegun l.state
-    × ((text : List ℕ) → IsEncryptedTo l.fn.key 1 l.fn.nonce 0 text (512 * l.fn.from) l.fn.bytes → IsEncryptedTo l.fn.key 1 l.fn.nonce 0 text (512 * l.n) l.bytes)
+    × ((text : List ℕ) → IsEncryptedTo l.fn.key 1 l.fn.nonce 0 text (512 * l.fn.from) l.fn.bytes
+    → IsEncryptedTo l.fn.key 1 l.fn.nonce 0 text (512 * l.n) l.bytes)
     × ((one : List ℕ) → ArePowersFor one l.fn.powers → WasGiven l.fn.state one (take (512 * (l.fn.from - 1)) l.fn.bytes)
     → WasGiven l.state one (take (512 * (l.n - 1)) l.bytes))

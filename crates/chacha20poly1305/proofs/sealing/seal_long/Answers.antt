@@ -5,7 +5,7 @@ use Rattle.chacha20.specs.Encryption.{chacha20_encrypt}
 use Rattle.chacha20.proofs.Facts.{length-chacha20_encrypt}
 use Rattle.poly1305.specs.Given.{WasGiven}
 use Rattle.chacha20poly1305.specs.Aead.{mac_data, one_time_key, seal_of, tag_of}
-use Rattle.chacha20poly1305.proofs.Pieces.{text_more}
+use Rattle.chacha20poly1305.proofs.Groups.{text_more}
 use Rattle.chacha20poly1305.proofs.sealing.seal_long.Goals as goal
 
 pub pieces-init : goal.pieces-init

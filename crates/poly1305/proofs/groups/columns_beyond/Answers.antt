@@ -4,7 +4,8 @@ use Rattle.poly1305.proofs.groups.columns_beyond.Goals as goal
 
 pub each-preserved : goal.each-preserved
 each-preserved c = record {
-  value = λ r powers. beyond_more r c.args.blocks c.each.i _ _ _ c.requires.few c.each-test.true (powers _ _ c.power_at.ensures) c.with_product-columns.ensures.value
+  value = λ r powers. beyond_more r c.args.blocks c.each.i _ _ _ c.requires.few c.each-test.true
+      (powers _ _ c.power_at.ensures) c.with_product-columns.ensures.value
       (c.each.invariant.value r powers);
   bounds = (omega arith, omega arith, omega arith);
 }

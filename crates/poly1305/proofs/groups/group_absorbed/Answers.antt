@@ -25,7 +25,8 @@ each-preserved c = record {
 
 pub returns-clause-value : goal.returns-clause-value
 returns-clause-value c = λ r text powers beyond given.
-    let all = scaled_all r 64 (4 * c.each.i) _ text c.args.group.now (omega arith) c.requires.group (c.each.invariant.value r text powers beyond given) in
+    let all = scaled_all r 64 (4 * c.each.i) _ text c.args.group.now (omega arith) c.requires.group
+    (c.each.invariant.value r text powers beyond given) in
     scaled_last r 0 _ _ _ refl c.carried.ensures.value all
 
 pub with_product-columns-requires-clause-by : goal.with_product-columns-requires-clause-by

@@ -13,5 +13,6 @@ invariant-each l = record {
   high : l.power.high ≤ 4;
   value : number_of l.power % prime ≡ factor_number l.fn.r ^ l.i % prime;
   multipliers : (k : ℕ) (x : Multiplier) → 63 < k + l.i → slice_get l.powers k ≡ Some x → IsMultiplier x;
-  powers : (k : ℕ) (x : Multiplier) → 63 < k + l.i → slice_get l.powers k ≡ Some x → multiplier_number x % prime ≡ factor_number l.fn.r ^ (64 - k) % prime;
+  powers : (k : ℕ) (x : Multiplier) → 63 < k + l.i → slice_get l.powers k ≡ Some x
+      → multiplier_number x % prime ≡ factor_number l.fn.r ^ (64 - k) % prime;
 }

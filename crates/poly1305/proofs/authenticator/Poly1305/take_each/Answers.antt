@@ -1,6 +1,6 @@
-use Rattle.std.proofs.Common.{◌*◌, arith}
+use Rattle.std.proofs.Common.{◌+◌, ◌-◌, ◌*◌, arith}
 use Rattle.std.proofs.lemmas.List.{take_all, append-nil, append_assoc}
-use Rattle.poly1305.proofs.Accumulating.{take_more_block}
+use Rattle.poly1305.proofs.Accumulating.{take_part}
 use Rattle.poly1305.proofs.authenticator.Poly1305.take_each.Goals as goal
 
 pub each-init : goal.each-init
@@ -12,8 +12,9 @@ each-init c = record {
 pub each-preserved : goal.each-preserved
 each-preserved c = record {
   given = λ key text given.
+      let i = c.each.i in
       let more = c.take_block.ensures.given key _ (c.each.invariant.given key text given) in
-      rw (append_assoc, take_more_block c.args.blocks.now c.each.i) at more;
+      rw (append_assoc, take_part c.args.blocks.now (16 * i) (16 * i + 16 - 16 * i) (16 * (i + 1)) (omega arith)) at more;
   unbegun = c.take_block.ensures.unbegun;
 }
 

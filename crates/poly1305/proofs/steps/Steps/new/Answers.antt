@@ -17,5 +17,6 @@ returns-clause-taken c = λ key text powers given.
       value = given.whole;
     } in
     record {
-      scaled = rw append-nil (scaled_first r 32 _ _ _ _ text (powers.powers 32 _ c.highest.ensures) powers.beyond c.with_product.ensures.value before);
+      scaled = rw append-nil (scaled_first r 32 _ _ _ _ text
+          (powers.powers 32 _ c.highest.ensures) powers.beyond c.with_product.ensures.value before);
     }
