@@ -1,7 +1,9 @@
 #!/usr/bin/env python3
 """Proves and builds a program, with the libraries below it side by side, where something has changed since the last time:
 build.py PROGRAM WORD.., where the words are those of a run of it that succeeds. build.py LIBRARY does the same for a static library, which is
-crates/LIBRARY/out/libLIBRARY.a then. build.py --level prints the level that it would be compiled for.
+crates/LIBRARY/out/libLIBRARY.a then. build.py --level prints the level that it would be compiled for. build.py --after-gate PROGRAM WORD.. takes the
+libraries that an `rt ci` has just left in a clone where nothing was built before, and proves and builds the program alone; where it left none, all is
+proved as ever.
 
 Says on standard error which crates it proves and how many are left, and nothing where there is nothing to do. Each crate
 is proved by `rt lib` over what earlier runs have kept, as soon as those that it uses are there, the one with the longest
@@ -17,6 +19,7 @@ built anew. Exit status 2 where SAZH_CPU names no level, or one that the process
 where it runs, and takes half a MiB less of memory. Elsewhere the program stays as the kit linked it, and a line says so.
 """
 import hashlib
+import importlib
 import os
 import re
 import shutil
@@ -27,7 +30,8 @@ import tempfile
 import time
 
 TOP = os.path.dirname(os.path.abspath(__file__))
-PROGRAM, WORDS = sys.argv[1], sys.argv[2:]
+AFTER_GATE = sys.argv[1] == "--after-gate"
+PROGRAM, *WORDS = sys.argv[1 + AFTER_GATE :]
 # Who tells of a refusal.
 WHO = "build.py" if PROGRAM == "--level" else PROGRAM
 STAMP = f"{TOP}/crates/{PROGRAM}/out/built_from"
@@ -122,10 +126,41 @@ def below(name, uses):
     return {it for used in uses[name] for it in {used, *below(used, uses)}}
 
 
+def kit():
+    """The folder of the kit."""
+    return os.path.dirname(os.path.dirname(os.path.realpath(shutil.which("rt"))))
+
+
+def left_by_gate(uses):
+    """The libraries below the program, where `rt ci` left all of them. `rt` takes none of these for built, since they fit one another alone."""
+    libraries = below(PROGRAM, uses)
+    out = {name: f"{TOP}/crates/{name}/out/rlib" for name in libraries}
+    whole = all(os.path.isdir(f"{out[it]}/{it}.rlib") and not os.path.exists(f"{out[it]}/stamp") for it in libraries)
+    return libraries if whole else set()
+
+
+class OtherKit(Exception):
+    """The kit's `rt` notes in another way what is built."""
+
+
+def is_noted(folder):
+    """Has `rt` take the libraries below the crate of this folder for built, where all of them are of one `rt ci`. Says whether that can be done."""
+    sys.path.insert(0, f"{kit()}/bin")
+    try:
+        rtlib = importlib.import_module("rtlib")
+        libraries = rtlib.Crate(folder, rtlib.root_above(folder), {}).below()
+        for it in libraries:
+            with open(f"{it.folder}/out/rlib/stamp", "x", encoding="utf-8") as file:
+                file.write(it.stamp())
+        return all(it.is_built() for it in libraries)
+    except (Exception, SystemExit):
+        return False
+
+
 class Run:
     """A crate that is proved in a folder of its own."""
 
-    def __init__(self, name, uses, cpu, jobs, niceness):
+    def __init__(self, name, uses, cpu, jobs, niceness, after_gate):
         self.name, self.jobs = name, jobs
         self.room = tempfile.mkdtemp(prefix=f"{PROGRAM}-")
         libraries = below(name, uses)
@@ -138,6 +173,9 @@ class Run:
             shutil.copytree(f"{TOP}/crates/{it}", f"{self.room}/crates/{it}", ignore=kept, copy_function=link)
         folder = f"{self.room}/crates/{name}"
         shutil.copytree(f"{TOP}/crates/{name}", folder, copy_function=link)
+        if after_gate and not is_noted(folder):
+            shutil.rmtree(self.room)
+            raise OtherKit
         words = ["nice", f"-n{niceness}", "rt", "lib", "--jobs", str(jobs)]
         if name == PROGRAM:
             built = ["rt", "lib" if STATIC else "run", f"--cpu={cpu}", "--jobs", str(jobs)]
@@ -164,8 +202,8 @@ class Run:
         shutil.rmtree(self.room, ignore_errors=True)
 
 
-def build(uses, cpu, done):
-    """Proves and builds all that isn't done."""
+def build(uses, cpu, done, after_gate=False):
+    """Proves and builds all that isn't done. Says whether all of it is proved."""
     above = {name: [it for it in uses if name in uses[it]] for name in uses}
     weight = {name: work(name) for name in uses}
     chains = {name: chain(name, above, weight) for name in uses}
@@ -191,18 +229,19 @@ def build(uses, cpu, done):
                 jobs = most if chains[name] == left else max(1, most // 2) if chains[name] > 0.75 * left else 1
                 if ahead >= lanes or (running and sum(it.jobs for it in running) + jobs > room):
                     break
-                running.append(Run(name, uses, cpu, jobs, round(19 * (1 - chains[name] / longest))))
+                running.append(Run(name, uses, cpu, jobs, round(19 * (1 - chains[name] / longest)), after_gate))
             time.sleep(0.2)
             for run in [it for it in running if it.process.poll() is not None]:
                 if run.process.returncode != 0:
                     print(run.said() + f"{PROGRAM}: {run.name} could not be proved", file=sys.stderr)
-                    sys.exit(3)
+                    return False
                 run.keep()
                 run.close()
                 running.remove(run)
                 done.add(run.name)
                 took = (time.monotonic() - began) / 60
                 print(f"{PROGRAM}: {took:4.1f} min: {run.name} is proved, {len(uses) - len(done)} left", file=sys.stderr)
+        return True
     finally:
         for run in running:
             run.close()
@@ -210,9 +249,8 @@ def build(uses, cpu, done):
 
 def link_alone(program):
     """Links a program that was built with the C library inside it, from the object that the kit made. Says whether that can be done here."""
-    kit = os.path.dirname(os.path.dirname(os.path.realpath(shutil.which("rt"))))
-    libraries = [f"{kit}/c/libos_c.a", f"{kit}/c/liblibc_c.a"]
-    linker = ["cc", f"-B{kit}/toolchain/bin", "-fuse-ld=lld", "-static-pie", "-s", "-Wl,--gc-sections"]
+    libraries = [f"{kit()}/c/libos_c.a", f"{kit()}/c/liblibc_c.a"]
+    linker = ["cc", f"-B{kit()}/toolchain/bin", "-fuse-ld=lld", "-static-pie", "-s", "-Wl,--gc-sections"]
     alone = f"{program}.alone"
     try:
         made = subprocess.run([*linker, "-o", alone, f"{program}.o", *libraries], stdin=subprocess.DEVNULL, capture_output=True)
@@ -241,14 +279,21 @@ def main():
     except OSError:
         pass
     same = kept[:1] == [digest]
-    if same and kept[1:] == [cpu] and os.path.exists(PRODUCT):
+    if same and kept[1:2] == [cpu] and os.path.exists(PRODUCT):
         return
+    of_gate = same and kept[2:] == ["gate"]
+    left = left_by_gate(uses) if AFTER_GATE or of_gate else set()
+    try:
+        over_gate = bool(left) and build(uses, cpu, left, after_gate=True)
+    except OtherKit:
+        over_gate = False
     # (where the sources are those of the last run, its libraries stand as they were proved: nothing of them hangs on the level)
-    build(uses, cpu, below(PROGRAM, uses) if same else ())
+    if not over_gate and not build(uses, cpu, below(PROGRAM, uses) if same and not of_gate else ()):
+        sys.exit(3)
     if PROGRAM == "sazh" and not link_alone(PRODUCT):
         print(f"{PROGRAM}: it needs this machine's C library, since `cc` finds no static one here", file=sys.stderr)
     with open(STAMP, "w", encoding="utf-8") as file:
-        file.write(f"{digest} {cpu}\n")
+        file.write(f"{digest} {cpu}{' gate' if over_gate else ''}\n")
 
 
 main()

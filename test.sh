@@ -20,8 +20,10 @@ edits/run.sh --apply || exit 1
 # Whether the table of public names is complete, and the page of the definitions that a reader trusts is what the sources say.
 scripts/names.py || exit 1
 scripts/trusted.py --check || exit 1
-# Whether each definition that a `use` names is there, each page that a link names, and what DEFINITIONS says of where each stands.
+# Whether each definition that a `use` names is there and something names each lemma, whether lines are no longer than they shall be, each page that a
+# link names is there, and what DEFINITIONS says of where each definition stands.
 scripts/uses.py || exit 1
+scripts/columns.py || exit 1
 scripts/links.py || exit 1
 scripts/definitions.py || exit 1
 # Whether the pictures are those of crates.txt and of README's table of speed.
@@ -37,15 +39,19 @@ if ! diff <(sed -n '/^```rust$/,/^```$/p' README.md | sed '1d;$d') <(grep -v '^/
     exit 1
 fi
 
+# (`rt ci` puts back what it found here, also the libraries of an `rt ci` before: these go)
+for it in crates/*/out/rlib; do
+    [ -e "$it/stamp" ] || rm -rf "$it"
+done
 rt ci 2>&1 | tee "$log/gate" | stamped || status=1
 gate=$(grep -E '^[0-9]+ passed, [0-9]+ failed$' "$log/gate" | tail -n 1)
 [ -n "$gate" ] || { gate='0 passed, 1 failed'; status=1; }
 
-# What a script says of a program that the gate built just now: its last line, with each line stamped.
+# What a script says of a program or library that the gate built just now: its last line, with each line stamped.
 runs() {
     local name=$1 program=$2
     shift 2
-    if [ -x "$program" ]; then
+    if [ -f "$program" ]; then
         "$@" "$program" 2>&1 | tee "$log/$name" | stamped || status=1
     fi
     counted=$(grep -E '^[0-9]+ passed, [0-9]+ failed$' "$log/$name" 2>/dev/null | tail -n 1)
@@ -60,10 +66,9 @@ level=$(python3 build.py --level) || { level=x86-64-v2; status=1; }
 better_passed=0 better_failed=0
 if [ "$level" != x86-64-v2 ]; then
     echo "sazh on real files, compiled for $level:"
-    # (`rt ci` keeps nothing that a later build could begin from: build.py proves the libraries side by side, also for `age_c` below. An older note of what
-    # was built says nothing of the program that stands there now)
+    # (an older note of what was built says nothing of the program that stands there now)
     rm -f crates/sazh/out/built_from
-    if python3 build.py sazh --version < /dev/null 2>&1 | stamped; then
+    if python3 build.py --after-gate sazh --version < /dev/null 2>&1 | stamped; then
         runs better crates/sazh/out/sazh python3 tests/sazh/run.py
     else
         counted='0 passed, 1 failed'
@@ -79,7 +84,11 @@ faults=$counted
 foreign='0 passed, 0 failed'
 if command -v cc > /dev/null && command -v python3 > /dev/null; then
     echo "age_c from C, Rust and Python:"
-    runs foreign crates/sazh/out/sazh foreign/run.sh
+    if python3 build.py --after-gate age_c < /dev/null 2>&1 | stamped; then
+        runs foreign crates/age_c/out/libage_c.a foreign/run.sh crates/sazh/out/sazh
+    else
+        counted='0 passed, 1 failed'
+    fi
     foreign=$counted
 fi
 
