@@ -110,14 +110,18 @@ PARTS = [
 
 INTRODUCTION = """# What a reader trusts
 
-A proof shows that the code does what its clauses say. Whether these say what is meant, a reader has to judge: of the clauses, of each definition
-that they cite, of each that those cite, and so on. Below stand all that the three claims of README rest on, and no other, quoted from the files of
-`*/specs` with their comments, each before the first that cites it. Those of the format stand in `age_v1`, a crate without functions: its files `Stanza` to
-`Claims` are the sections of the standard and what the calls claim. Those of HMAC, HKDF and base64 stand in `hmac_sha256` and `age_base64`, which have
-nothing of `age`, and the errors, readers and random bytes that calls are handed in `age_error`, `age_io` and `age_suite`. The clauses stand at the end of
-each part. For these claims the other definitions of `*/specs`, and all of `*/proofs`, are steps of proofs, which the prover checks and nobody has to read.
+A proof shows that the code does what its clauses say. Whether the clauses say what is meant, a reader has to judge. For that the reader needs the
+clauses, the definitions that they cite, those that these cite, and so on. This page quotes all of them for the three claims of README, and no other,
+with their comments, each before the first that cites it. The clauses stand at the end of each part. What can't be quoted stands at the end of the page.
 
-`scripts/trusted.py` makes this page from the sources, and the gate compares. Lines are counted without blank ones.
+- The format stands in [age_v1](../crates/age_v1/specs/Lib.antt), a crate of definitions without functions: a file for each section of the standard,
+  which `Lib.antt` lists in the standard's order (`Stanza` to `Scrypt`), and `Claims`, what a success of the calls says.
+- HMAC, HKDF and base64 stand in `hmac_sha256` and `age_base64`.
+- Errors stand in `age_error`, readers and writers in `age_io`, random bytes in `age_suite`.
+
+For these claims the other definitions of `*/specs`, and all of `*/proofs`, are steps of proofs, which the prover checks and nobody has to read.
+
+`scripts/trusted.py` makes this page from the sources, and the gate compares. Lines are counted without blank ones, and the clauses aren't counted.
 
 | Part | definitions | files | crates | lines of code | with comments |
 |---|---|---|---|---|---|
@@ -131,7 +135,9 @@ after `standard:`, in our words.
 | | |
 |---|---|
 | `ℕ`, `ℤ`, `Bool`; `List ℕ` | numbers from 0 on, integers, true or false; a list of numbers, as bytes are. No sum wraps |
-| `A → B`, in a type | from an A to a B; `Type 0` at its end says that it is a fact, which may hold of these arguments or not |
+| `A → B`, in a type | a function from A to B. With `Type 0` at its end it is a fact about these arguments, which holds or not |
+| `Name : Type 0` | without arguments: a type, as `Seal` and `StanzaValue` are |
+| `{{A : Type 0}}` | for any type A, which isn't written where the name is used |
 | `P → Q`, `P × Q`, `P ⊎ Q` | if P then Q; P and Q; P or Q |
 | `(x : A) → P`, `(x : A) × P` | P for each x; P for some x |
 | `x ≡ y`, `x ≢ y`, `⊥`, `⊤` or `Unit {{0}}` | equal, not equal, never, always |
@@ -140,18 +146,38 @@ after `standard:`, in our words.
 | `λ x. y`, `let x = y in z` | the y of an x; z, where x is y |
 | `zero`, `suc n`; `pos k`, `negsuc k` | 0, n + 1; the integers k and -(k + 1) |
 | `m - n`, `m / n`, `m % n` | 0 where n is the larger; the whole quotient and its rest |
+| `take n xs`, `drop n xs`, `replicate n x`, `flat_map f xs` | the first n items; all after them; n times x; the lists `f x` of each x, joined |
+| `sha256 xs`; `encode symbols 61 padded xs` | SHA-256; base64 in these symbols, 61 for `=`, with padding if `padded` is true |
+| `bytes_high_first n i`, `join_with_byte 32 xs` | the number i in n bytes, big-endian; the lists, joined with one byte 32 between two |
 | `All P xs`, `AllByRecursion P xs`, `AllZip P xs ys` | P of each item; of each pair at one place, where both lists have as many |
 | `Some x`, `None`; `Ok x`, `Err e` | a value or none; a value or a refusal |
-| `IfOk r P`, `OnOk r P`, `IfErr r P`, `OnErr r P` | where r is `Ok x`: P of x, and just P; the same where it is `Err e` |
+| `IfOk r P`, `OnOk r P` | if r is `Ok x`, then `P x`; if r is an `Ok`, then `P`. So `IfErr`, `OnErr` of `Err e` |
 | `MatchResult r P Q` | P of x where r is `Ok x`, Q of e where it is `Err e` |
-| `x.old`, `x.new`, `x.now`, `result` | in a clause: what is lent before and after the call, what a reference shows, and what the call answers |
+| `x.old`, `x.new`; `x.now`; `result` | in a clause: what a `&mut` points to before and after the call; what a `&` points to; what the call answers |
 | `S.seal_of`, `⟦<S as Suite>⟧` | the member `seal_of` of a type, and all members that it has by this trait |
-| `draw.old`, `grease`, `self` | of a struct with a `view` its value, as a clause says; a grease is a stanza that means nothing |
+| `draw.old`, `grease`, `self` | if the type has a `ghost view` (quoted with the clauses), that view. Grease is a stanza that means nothing |
 """
+
+# What the claims say, in words: before all of them, and before the one of this caption.
+IN_WORDS = {
+    "": "A reader's `rest` is what it can still deliver, and `ends_well` says that a clean end follows. `tells`: its members say what the bytes are. "
+        "`steady`: a place has the same bytes however one came there. `faults`: how often the device failed. A writer's `appended`: which bytes went out "
+        "between two of its states. Part 2 has them all.",
+    "Claim 1, from a reader to a writer":
+        "If the reader and the writer tell their bytes, `Ok` says: the input ended well, and exactly the file of all that was left of it was appended, bare "
+        "or in armor. Its file key, stanzas and nonce are what recipients, grease and random bytes come to (`Prepares`).",
+    "Claim 2":
+        "It is of a reader that tells its bytes, is steady and ends well, of a type that never fails, as a slice is. If its bytes carry a file for the "
+        "identities (`IsFileFor`), `Ok` says: a cursor on the plaintext would answer the same. Where one answer is want of memory, nothing is said of any. "
+        "`Err` is want of memory. Of damaged files it says nothing.",
+    "Claim 3, from a reader to a writer":
+        "If both tell their bytes and the reader is steady, `Ok` says: the input ended well, all that was left of it carried a file, and exactly that file's "
+        "plaintext was appended. Its file key is the answer of the first identity that answered. The input may be any bytes.",
+}
 
 REST = """## What else is trusted
 
-- The kit: that its compiler and prover mean by these words what its guides say (README, "Trusted").
+- The kit: that its compiler and prover mean by these words what its guides say ([README](../README.md#what-is-proved), "Trusted").
 - The types of the code that definitions speak of, as they are declared:
 {own}
 - The words of the standard library and of two ported crates, as the kit defines them. Those of `sha2` and `base64` are SHA-256 (FIPS 180-4), and
@@ -255,9 +281,10 @@ def part(number, title, what, clauses, sections, seen, outside, faults):
             each = ", ".join(f"`{it.name}` {lines_in(it.text)}" for it in here)
             text += [*wrapped(f"[{module.path[len('crates/'):]}](../{module.path}), lines of each: {each}."), "", "```text", *block(here), "```", ""]
     faults += [f"{it.module.path}: `{it.name}` is needed by part {number}: name its file in PARTS in scripts/trusted.py" for it in left]
-    text += ["### The claims" if number == 1 else "### The clauses", ""]
+    text += ["### The claims", "", *wrapped(IN_WORDS[""]), ""] if number == 1 else ["### The clauses", ""]
     for caption, path, clause, _ in quoted:
-        text += [f"**{caption}** ([{path}](../crates/{path})):", "", "```text", *clause, "```", ""]
+        text += wrapped(f"**{caption}** ([{path}](../crates/{path})). {IN_WORDS[caption]}" if caption in IN_WORDS else f"**{caption}** ([{path}](../crates/{path})):")
+        text += ["", "```text", *clause, "```", ""]
     return text, made
 
 
@@ -296,8 +323,8 @@ def page():
             if place.get(other, -1) > place[it]:
                 faults.append(f"{it.module.path}: `{it.name}` stands before `{other.name}`, which it cites: change PARTS in scripts/trusted.py")
     whole = told(made)
-    sentence = (f"They mean this if {first[0]} definitions ({first[3]} lines) are right, or {whole[0]} ({whole[3]} lines) with the keys and "
-                "primitives of the standard: [TRUSTED](docs/TRUSTED.md) quotes them, and no other.")
+    sentence = (f"The claims rest on {first[0]} definitions ({first[3]} lines), for any cipher and keys; with the keys and primitives of the standard on "
+                f"{whole[0]} ({whole[3]} lines): [TRUSTED](docs/TRUSTED.md) quotes these, and the clauses.")
     own, others = rest(outside, faults)
     head = INTRODUCTION.format(rows="\n".join(rows), whole="| **all** | {} | {} | {} | {} | {} |".format(*whole))
     text = [head, *parts, REST.format(own="\n".join(own), others="\n".join(others))]

@@ -1,8 +1,10 @@
 #!/usr/bin/env python3
 """Whether each `use` of a definition, in specs, proofs, code and edits, names one that is there: `use Rattle.CRATE.specs.File.{name, ..}` where that file
 defines or passes on each name. The prover says the same, twenty minutes later. Names of std and of the kit's crates aren't looked at.
-A second; the last line is 'N passed, M failed'."""
+And whether something names each lemma of a crate's `proofs/`, which the prover doesn't say.
+Three seconds; the last line is 'N passed, M failed'."""
 
+import collections
 import glob
 import os
 import re
@@ -12,6 +14,9 @@ sys.dont_write_bytecode = True
 from specs import TOP, text_of, verdict
 
 USE = re.compile(r"^\s*(?:(?:new|old): )?(?:unfoldable |pub |ghost )*use Rattle\.([\w.]+?)(?:\.\{(.*)\})?(?: as \w+)?;?\s*$")
+
+LEMMA = re.compile(r" *(?:(?:unfoldable|abbrev|pub|record) )*([^\s:({.]+) [^:]*:")
+NAME = re.compile(r"[^\s(){}\[\],;.:`]+")
 
 
 def name_of(path):
@@ -40,6 +45,24 @@ def passed_on(texts):
             for where, other in re.findall(r"^pub use Rattle\.([\w.]+)(?: as (\w+))?$", text, re.M):
                 found[f"{name[:-4]}.{other or where.split('.')[-1]}"] = where
     return found
+
+
+def unnamed(texts):
+    """Of the lemmas of `proofs/`, by where they stand, whether anything names them but themselves."""
+    counts = collections.Counter()
+    for text in texts.values():
+        counts.update(NAME.findall(text))
+    for path, text in texts.items():
+        if not re.fullmatch(r"crates/\w+/proofs/\w+\.antt", path):
+            continue
+        lines = text.split("\n")
+        for start, line in enumerate(lines):
+            found = LEMMA.match(line)
+            if not found or found[1] in ("--", "use", "module", "mod", "let", "|"):
+                continue
+            end = next((it for it in range(start, len(lines)) if not lines[it].strip()), len(lines))
+            own = NAME.findall("\n".join(lines[start:end])).count(found[1])
+            yield f"{path}:{start + 1}", found[1], counts[found[1]] <= own
 
 
 def main():
@@ -71,6 +94,11 @@ def main():
                     passed += 1
                 else:
                     faults.append(f"{here}: {module} has no {name}")
+    for here, name, alone in unnamed({os.path.relpath(path, TOP): text_of(path) for path in files("antt", "rt") if path.startswith(f"{TOP}/crates/")}):
+        if alone:
+            faults.append(f"{here}: nothing names the lemma {name}")
+        else:
+            passed += 1
     return verdict(passed, faults)
 
 

@@ -3,6 +3,8 @@ pub use Rattle.age_io.proofs.Delivering
 pub use Rattle.age_io.proofs.Copied
 pub use Rattle.age_io.proofs.PartCopied
 pub use Rattle.age_base64.proofs.Columns
+pub use Rattle.age_v1.proofs.Cuts
+pub use Rattle.age_v1.proofs.Payloads
 pub use Rattle.age_v1.proofs.StandingBytes as StreamStanding
 pub use Rattle.age_stream.proofs.Remaining as StreamRemaining
 pub use Rattle.age_stream.proofs.Answered as StreamAnswered

@@ -27,7 +27,8 @@ unfolding rest_ahead
 gives_front failed held front n stage rest good same =
     let parts : front ++ drop n held ≡ held = ap (λ f. f ++ drop n held) same ∙ take-append-drop n held in
     rw good (record {
-      bytes = ap (λ x. x ++ (stretch_of (ahead stage rest)).bytes) (sym parts) ∙ append_assoc front (drop n held) (stretch_of (ahead stage rest)).bytes;
+      bytes = ap (λ x. x ++ (stretch_of (ahead stage rest)).bytes) (sym parts)
+          ∙ append_assoc front (drop n held) (stretch_of (ahead stage rest)).bytes;
       end = refl;
     })
 
@@ -66,15 +67,19 @@ shown_further false held n = refl
 
 -- ---- where it stands
 
-pub kept_stands : (content other rest new : Stretch) (place : ℕ) → other ≡ content → new ≡ rest → StandsIn content place rest → StandsIn other place new
+pub kept_stands : (content other rest new : Stretch) (place : ℕ) → other ≡ content → new ≡ rest → StandsIn content place rest
+    → StandsIn other place new
 kept_stands content other rest new place p q h = rw (p, q) h
 
-pub given_stands : (content rest new : Stretch) (place n : ℕ) (xs : List ℕ) → n ≡ length xs → Delivers xs rest new → StandsIn content place rest → StandsIn content (place + n) new
+pub given_stands : (content rest new : Stretch) (place n : ℕ) (xs : List ℕ) → n ≡ length xs → Delivers xs rest new → StandsIn content place rest
+    → StandsIn content (place + n) new
 given_stands content rest new place n xs size d stands = elim stands.reaches [
   | inl e ↦
       let bytes : drop place content.bytes ≡ xs ++ new.bytes = ap (λ s. s.bytes) (sym e) ∙ d.bytes in
-      let len : length content.bytes - place ≡ length xs + length new.bytes = sym (length-drop place content.bytes) ∙ ap length bytes ∙ length-append xs new.bytes in
-      let after : drop (place + n) content.bytes ≡ new.bytes = sym (drop-drop n place content.bytes) ∙ ap (drop n) bytes ∙ drop_at xs new.bytes n (sym size) in
+      let len : length content.bytes - place ≡ length xs + length new.bytes =
+      sym (length-drop place content.bytes) ∙ ap length bytes ∙ length-append xs new.bytes in
+      let after : drop (place + n) content.bytes ≡ new.bytes =
+      sym (drop-drop n place content.bytes) ∙ ap (drop n) bytes ∙ drop_at xs new.bytes n (sym size) in
       record {
         within = omega (arith, len, size, stands.within);
         reaches = inl (stretch-ext new (from_place (place + n) content) (sym after) (d.end ∙ ap (λ s. s.ends_well) e));
@@ -114,7 +119,8 @@ pub front_held : (failed : Bool) (held : List ℕ) (stage : Stage) (rest : Stret
 unfolding rest_ahead
 front_held failed held stage rest good = record { more = (stretch_of (ahead stage rest)).bytes; bytes = rw good refl }
 
-pub ending_same : (held next : List ℕ) (stage : Stage) (rest : Stretch) → (outcome_ahead next stage rest).ending ≡ (outcome_ahead held stage rest).ending
+pub ending_same : (held next : List ℕ) (stage : Stage) (rest : Stretch)
+    → (outcome_ahead next stage rest).ending ≡ (outcome_ahead held stage rest).ending
 unfolding outcome_ahead
 ending_same held next stage rest = refl
 
@@ -124,7 +130,8 @@ pub starts_outcome : (held : List ℕ) (rest : Stretch) → held ≡ [] → outc
 unfolding outcome_ahead
 starts_outcome held rest none = rw none refl
 
-pub starts_rest : (held : List ℕ) (rest : Stretch) → held ≡ [] → rest_ahead false held Start rest ≡ stretch_of (text_delivers rest.bytes rest.ends_well)
+pub starts_rest : (held : List ℕ) (rest : Stretch) → held ≡ []
+    → rest_ahead false held Start rest ≡ stretch_of (text_delivers rest.bytes rest.ends_well)
 unfolding rest_ahead
 starts_rest held rest none = rw none refl
 
@@ -166,7 +173,8 @@ pub outcome_none : (old : List ℕ) (stage : Stage) (rest : Stretch) → old ≡
 unfolding outcome_ahead
 outcome_none old stage rest empty = rw empty refl
 
-pub hold_fault : (failed : Bool) (old : List ℕ) (stage : Stage) (rest : Stretch) (e : Error) → failed ≡ false → old ≡ [] → StopsWith (ahead stage rest) e →
+pub hold_fault : (failed : Bool) (old : List ℕ) (stage : Stage) (rest : Stretch) (e : Error) → failed ≡ false → old ≡ []
+    → StopsWith (ahead stage rest) e →
     IsFault (rest_ahead failed old stage rest)
 unfolding rest_ahead
 hold_fault failed old stage rest e good empty stops =

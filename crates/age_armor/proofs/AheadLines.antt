@@ -40,7 +40,8 @@ line_shown rest columns long feed is =
 pub gathered : (front columns new : List ℕ) (n k : ℕ) → new ≡ put_mid (64 * n) k columns (take 64 (drop (65 * n) front)) →
     64 * n ≤ length columns → 65 * (n + 1) ≤ length front → slice_index front (65 * n + 64) ≡ 10 →
     ((bytes : List ℕ) → length bytes ≡ 48 * n → take (64 * n) columns ≡ padded_columns bytes → take (65 * n) front ≡ full_lines n bytes) →
-    (bytes : List ℕ) → length bytes ≡ 48 * (n + 1) → take (64 * (n + 1)) new ≡ padded_columns bytes → take (65 * (n + 1)) front ≡ full_lines (n + 1) bytes
+    (bytes : List ℕ) → length bytes ≡ 48 * (n + 1) → take (64 * (n + 1)) new ≡ padded_columns bytes
+    → take (65 * (n + 1)) front ≡ full_lines (n + 1) bytes
 unfolding full_lines
 gathered front columns new n k is room long feed before bytes size same =
     let rest : List ℕ = drop (65 * n) front in
@@ -56,12 +57,14 @@ gathered front columns new n k is room long feed before bytes size same =
     let first : here ≡ padded_columns front_bytes =
     sym (take_at here one (64 * n) here_size) ∙ ap (take (64 * n)) parts ∙ columns_front bytes n (omega (arith, size)) in
     let last : one ≡ padded_columns line_bytes =
-    sym (take_all 64 one (omega (arith, one_size))) ∙ ap (take 64) (sym (drop_at here one (64 * n) here_size) ∙ ap (drop (64 * n)) parts) ∙ columns_at bytes n (omega (arith, size)) in
+    sym (take_all 64 one (omega (arith, one_size))) ∙ ap (take 64) (sym (drop_at here one (64 * n) here_size) ∙ ap (drop (64 * n)) parts)
+    ∙ columns_at bytes n (omega (arith, size)) in
     let front_size : length front_bytes ≡ 48 * n = length-take-le (48 * n) bytes (omega (arith, size)) in
     let lines : take (65 * n) front ≡ full_lines n bytes =
     before front_bytes front_size first ∙ sym (full_lines-front n front_bytes (drop (48 * n) bytes) (omega (arith, front_size)))
     ∙ ap (full_lines n) (take-append-drop (48 * n) bytes) in
-    let shown : take 65 rest ≡ line (padded_columns line_bytes) = line_shown rest (padded_columns line_bytes) rest_long (get_or-drop (65 * n) front 64 0 ∙ feed) last in
+    let shown : take 65 rest ≡ line (padded_columns line_bytes) =
+    line_shown rest (padded_columns line_bytes) rest_long (get_or-drop (65 * n) front 64 0 ∙ feed) last in
     let count : 65 * (n + 1) ≡ 65 * n + 65 = omega arith in
     ap (λ k. take k front) count ∙ take-add (65 * n) 65 front ∙ ap (λ z. z ++ take 65 rest) lines
     ∙ ap (λ z. full_lines n bytes ++ z) (shown ∙ sym (append-nil (line (padded_columns line_bytes)))) ∙ sym (full_lines-both n 1 bytes)
@@ -95,14 +98,17 @@ ahead_wider bytes more shown n h = record {
 -- ---- lines that are taken
 
 -- the first of them
-ahead_first : (bytes shown : List ℕ) (next left : ℕ) → IsAhead bytes next left shown → 0 < left → take 65 shown ≡ line (padded_columns (take 48 (drop next bytes)))
+ahead_first : (bytes shown : List ℕ) (next left : ℕ) → IsAhead bytes next left shown → 0 < left
+    → take 65 shown ≡ line (padded_columns (take 48 (drop next bytes)))
 unfolding full_lines
 ahead_first bytes shown next zero h some = absurd (omega (arith, some))
 ahead_first bytes shown next (suc left) h some =
     let one : List ℕ = take 48 (drop next bytes) in
     let size : length one ≡ 48 = length-take-le 48 (drop next bytes) (omega (arith, h.room, length-drop next bytes)) in
-    let columns : length (line (padded_columns one)) ≡ 65 = omega (arith, length-append (padded_columns one) (10 ∷ []), length-padded_columns one, size) in
-    sym (take-take 65 (65 * suc left) shown (omega arith)) ∙ ap (take 65) h.lines ∙ take_at (line (padded_columns one)) (full_lines left (drop 48 (drop next bytes))) 65 columns
+    let columns : length (line (padded_columns one)) ≡ 65 =
+    omega (arith, length-append (padded_columns one) (10 ∷ []), length-padded_columns one, size) in
+    sym (take-take 65 (65 * suc left) shown (omega arith)) ∙ ap (take 65) h.lines
+    ∙ take_at (line (padded_columns one)) (full_lines left (drop 48 (drop next bytes))) 65 columns
 
 pub ahead_taken : (bytes shown line_bytes : List ℕ) (next left : ℕ) (old new : Stretch) → IsAhead bytes next left shown → 0 < left →
     line_bytes ≡ take 48 (drop next bytes) → AreBytes line_bytes → Delivers (take 65 shown) old new → TakesFull line_bytes old new
@@ -113,13 +119,15 @@ ahead_taken bytes shown line_bytes next left old new h some is each d = record {
 }
 
 -- those after it
-pub ahead_rest : (bytes shown other : List ℕ) (next left : ℕ) → IsAhead bytes next left shown → 0 < left → other ≡ drop 65 shown → IsAhead bytes (next + 48) (left - 1) other
+pub ahead_rest : (bytes shown other : List ℕ) (next left : ℕ) → IsAhead bytes next left shown → 0 < left → other ≡ drop 65 shown
+    → IsAhead bytes (next + 48) (left - 1) other
 unfolding full_lines
 ahead_rest bytes shown other next zero h some is = absurd (omega (arith, some))
 ahead_rest bytes shown other next (suc left) h some is =
     let one : List ℕ = take 48 (drop next bytes) in
     let size : length one ≡ 48 = length-take-le 48 (drop next bytes) (omega (arith, h.room, length-drop next bytes)) in
-    let columns : length (line (padded_columns one)) ≡ 65 = omega (arith, length-append (padded_columns one) (10 ∷ []), length-padded_columns one, size) in
+    let columns : length (line (padded_columns one)) ≡ 65 =
+    omega (arith, length-append (padded_columns one) (10 ∷ []), length-padded_columns one, size) in
     let less : suc left - 1 ≡ left = omega arith in
     let count : 65 + 65 * left ≡ 65 * suc left = omega arith in
     let lines : take (65 * left) other ≡ full_lines left (drop (next + 48) bytes) =

@@ -65,7 +65,8 @@ pub from-end : (d e : ℤ) (len : ℕ) (r answer : Result ℕ Error) → d ≡ e
 from-end d e len r answer same exact is place = subst (λ d. sought (End d) place len ≡ answer) same (sym (exact place) ∙ is)
 
 -- the same, where the length was known
-pub from-known-end : (d e : ℤ) (known len : ℕ) (r : Result ℕ Error) → d ≡ e → known ≡ len → len < 2 ^ 63 → (known < 2 ^ 63 → (place : ℕ) → r ≡ sought (End d) place known) →
+pub from-known-end : (d e : ℤ) (known len : ℕ) (r : Result ℕ Error) → d ≡ e → known ≡ len → len < 2 ^ 63
+    → (known < 2 ^ 63 → (place : ℕ) → r ≡ sought (End d) place known) →
     (place : ℕ) → r ≡ sought (End e) place len
 from-known-end d e known len r same is fits exact place =
     subst (λ n. r ≡ sought (End e) place n) is (sym (from-end d e known r r same (exact (omega (arith, is, fits))) refl place))
@@ -105,7 +106,10 @@ clean-unnamed InnerFault e clean named = true≢false (sym clean)
 
 -- the count of faults stays the same in each part, where it does in the whole
 pub quiet-first : (a b c : ℕ) → a ≤ b → b ≤ c → IsQuiet a c → IsQuiet a b
-quiet-first a b c first last quiet = record { same = omega (arith, first, last, quiet.same); below = omega (arith, first, last, quiet.same, quiet.below) }
+quiet-first a b c first last quiet = record {
+  same = omega (arith, first, last, quiet.same);
+  below = omega (arith, first, last, quiet.same, quiet.below);
+}
 
 module _ {R : Type 0} (read : Ghosts R) (failed : R → Bool) (below : Error → Type 0) where
   -- what only seeks refuse with
@@ -115,8 +119,10 @@ module _ {R : Type 0} (read : Ghosts R) (failed : R → Bool) (below : Error →
   -- a refusal that isn't an interruption
   pub seeks-refused : (old new : R) (to : SeekFrom) (e : Error) → KeepsReader {T = ℕ} read (OrSeek own read.refuses) old new (Err e) →
       (IsOutside e → AddsNoReason read.refuses old new) → (IsTrue (read.tells old) → read.place new ≡ read.place old) →
-      (IsTrue (read.tells old) → IsTrue (read.steady old) → read.rest old ≡ from_place (read.place old) (read.content old) → IsOutside e → read.rest new ≡ read.rest old) →
-      (IsTrue (read.tells old) → IsTrue (read.content old).ends_well → IsOutside e → sought to (read.place old) (length (read.content old).bytes) ≡ Err e) →
+      (IsTrue (read.tells old) → IsTrue (read.steady old) → read.rest old ≡ from_place (read.place old) (read.content old) → IsOutside e
+      → read.rest new ≡ read.rest old) →
+      (IsTrue (read.tells old) → IsTrue (read.content old).ends_well → IsOutside e
+      → sought to (read.place old) (length (read.content old).bytes) ≡ Err e) →
       (IsTrue (read.tells old) → IsTrue (read.content old).ends_well → e ≢ OutOfMemory → IsQuiet (read.faults old) (read.faults new) → IsOutside e) →
       Seeks read.tells read.steady read.content read.place read.rest read.faults read.refuses own old new to (Err e)
   seeks-refused old new to e keeps missed stays kept refused cause = record {
@@ -163,7 +169,8 @@ module _ {R : Type 0} (read : Ghosts R) (failed : R → Bool) (below : Error →
   }
 
   pub came : (old new : R) (stood : ℕ) (had : Bool) (error : Error) → SameReader read old new → failed new ≡ false →
-      (IsTrue (read.tells old) → read.place new ≡ stood) → (IsTrue (read.tells old) → IsTrue (read.steady old) → read.rest new ≡ from_place stood (read.content old)) →
+      (IsTrue (read.tells old) → read.place new ≡ stood)
+      → (IsTrue (read.tells old) → IsTrue (read.steady old) → read.rest new ≡ from_place stood (read.content old)) →
       had ≡ false → IsOutside error → AddsNoReason read.refuses old new → ComesBack read failed own old new stood had error error
   came old new stood had error same good stands back good_before is narrows = record {
     same = same;
@@ -180,7 +187,8 @@ module _ {R : Type 0} (read : Ghosts R) (failed : R → Bool) (below : Error →
     cause = λ told well refusal other quiet. refusal;
   }
 
-  pub lost : (old middle new : R) (stood : ℕ) (had : Bool) (error e answer : Error) → Goes {A = ℕ} read (OrSeek own read.refuses) old middle (Err e) → SameReader read middle new →
+  pub lost : (old middle new : R) (stood : ℕ) (had : Bool) (error e answer : Error)
+      → Goes {A = ℕ} read (OrSeek own read.refuses) old middle (Err e) → SameReader read middle new →
       read.place new ≡ stood → failed new ≡ true → read.rest new ≡ nothing → IsOutside error →
       (IsOutside answer → ⊥) → (answer ≢ Failed → answer ≡ e) →
       (IsTrue (read.tells old) → IsTrue (read.content old).ends_well → answer ≢ OutOfMemory → IsQuiet (read.faults old) (read.faults middle) → ⊥) →
@@ -205,8 +213,10 @@ module _ {R : Type 0} (read : Ghosts R) (failed : R → Bool) (below : Error →
   pub too-long : (old new : R) (to : SeekFrom) (ends_well : Bool) (ending : Ending) → SameReader read old new →
       failed new ≡ true → (IsTrue (read.tells old) → ⊥) → SeeksText read failed own old new to ends_well ending (Err TooLong)
   too-long old new to ends_well ending same fails untold = record {
-    seeks = seeks-refused old new to TooLong (keeps-refused read (OrSeek own read.refuses) old new TooLong same (λ device. device) (inl (inr (inl refl))))
-        (λ refusal. absurd refusal) (λ told. absurd (untold told)) (λ told. absurd (untold told)) (λ told. absurd (untold told)) (λ told. absurd (untold told));
+    seeks = seeks-refused old new to TooLong
+        (keeps-refused read (OrSeek own read.refuses) old new TooLong same (λ device. device) (inl (inr (inl refl))))
+        (λ refusal. absurd refusal) (λ told. absurd (untold told)) (λ told. absurd (untold told)) (λ told. absurd (untold told))
+        (λ told. absurd (untold told));
     patient = λ interruption. interruption;
     good = tt;
     unmoved = λ refusal. absurd refusal;
@@ -218,8 +228,10 @@ module _ {R : Type 0} (read : Ghosts R) (failed : R → Bool) (below : Error →
   pub too-early : (old : R) (d : ℤ) (ends_well : Bool) (ending : Ending) → place_at (read.place old) d ≡ None →
       SeeksText read failed own old old (Current d) ends_well ending (Err BeforeStart)
   too-early old d ends_well ending none = record {
-    seeks = seeks-refused old old (Current d) BeforeStart (keeps-refused read (OrSeek own read.refuses) old old BeforeStart (same-self read old) (λ device. device) (inl (inl tt)))
-        (λ refusal e h. h) (λ told. refl) (λ told is_steady stands refusal. refl) (λ told well refusal. ap (λ o. moved_to o (length (read.content old).bytes)) none)
+    seeks = seeks-refused old old (Current d) BeforeStart
+        (keeps-refused read (OrSeek own read.refuses) old old BeforeStart (same-self read old) (λ device. device) (inl (inl tt)))
+        (λ refusal e h. h) (λ told. refl) (λ told is_steady stands refusal. refl)
+        (λ told well refusal. ap (λ o. moved_to o (length (read.content old).bytes)) none)
         (λ told well other quiet. tt);
     patient = λ interruption. interruption;
     good = tt;
@@ -262,8 +274,11 @@ module _ {R : Type 0} (read : Ghosts R) (failed : R → Bool) (below : Error →
         unmoved = text.unmoved;
         fails = text.fails;
         named = λ told well. IfErr-weaker r _ _ (λ e named own other quiet.
-            let parts = named own other quiet in
-            (parts.0, λ n leads. let same_target : Some t ≡ Some n = sym is ∙ leads in let at : t ≡ n = cc same_target in subst (λ m. len < m) at parts.1))
+            let parts = named own other quiet in (
+              parts.0,
+              λ n leads. let same_target : Some t ≡ Some n = sym is ∙ leads in let at : t ≡ n = cc same_target in
+                  subst (λ m. len < m) at parts.1,
+            ))
             (text.named told well);
         early = λ told is_steady badly. IfErr-weaker r _ _ (λ e early refusal. absurd (early refusal).1) (text.early told is_steady badly);
       }

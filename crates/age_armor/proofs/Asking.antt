@@ -14,7 +14,8 @@ use Rattle.age_armor.specs.PrivateShowing.{AsksReader}
 
 module _ {R : Type 0} (read : Ghosts R) where
   -- the last call, after others that were interrupted
-  pub asks_later : {A : Type 0} (result : Result A Error) (a b c : R) (calls : ℕ) → Interrupted read a b calls → AsksReader read read.refuses b c result →
+  pub asks_later : {A : Type 0} (result : Result A Error) (a b c : R) (calls : ℕ) → Interrupted read a b calls
+      → AsksReader read read.refuses b c result →
       IfErr result (λ e. IsInterruption e → ⊥) → AsksReader read (TriedAgain read.refuses) a c result
   asks_later (Ok x) a b c calls before asks patient = record {
     same = same-later read a b c before.same asks.same;
@@ -41,7 +42,8 @@ module _ {R : Type 0} (read : Ghosts R) where
   }
 
   -- another interruption
-  pub asks_again : {A : Type 0} (result : Result A Error) (a b c : R) (calls : ℕ) → Interrupted read a b calls → AsksReader read read.refuses b c result →
+  pub asks_again : {A : Type 0} (result : Result A Error) (a b c : R) (calls : ℕ) → Interrupted read a b calls
+      → AsksReader read read.refuses b c result →
       IsErrAnd result IsInterruption → Interrupted read a c (calls + 1)
   asks_again (Ok x) a b c calls before asks is = absurd is
   asks_again (Err (Device interrupted)) a b c calls before asks is = record {

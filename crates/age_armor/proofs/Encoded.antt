@@ -28,7 +28,8 @@ columns_at bytes n fits =
     let columns_full : length (padded_columns one) ≡ 64 = omega (arith, full, length-padded_columns one) in
     let whole : padded_columns bytes ≡ padded_columns front ++ (padded_columns one ++ more) =
     ap padded_columns (sym (take-append-drop (48 * n) bytes)) ∙ padded_columns-append front rest (omega (arith, before))
-    ∙ ap (λ z. padded_columns front ++ z) (ap padded_columns (sym (take-append-drop 48 rest)) ∙ padded_columns-append one (drop 48 rest) (omega (arith, full))) in
+    ∙ ap (λ z. padded_columns front ++ z) (ap padded_columns (sym (take-append-drop 48 rest))
+    ∙ padded_columns-append one (drop 48 rest) (omega (arith, full))) in
     ap (λ z. take 64 (drop (64 * n) z)) whole
     ∙ ap (take 64) (drop_at (padded_columns front) (padded_columns one ++ more) (64 * n) columns_before)
     ∙ take_at (padded_columns one) more 64 columns_full
@@ -57,11 +58,14 @@ pub encoded_size-is : (e : GeneralPurpose) → ((bytes : List ℕ) → encode_of
 encoded_size-is e h bytes = sym (length-encode _ _ _ bytes) ∙ ap length (h bytes) ∙ length-padded_columns bytes
 
 -- how many columns were written, where they fit
-pub count-is : (e : GeneralPurpose) → ((bytes : List ℕ) → encode_of e bytes ≡ padded_columns bytes) → (bytes : List ℕ) (room count : ℕ) (result : Result ℕ EncodeSliceError) →
-    result ≡ Ok count → 4 * ((length bytes + 2) / 3) ≤ room → (encoded_size_of e (length bytes) ≤ room → result ≡ Ok (encoded_size_of e (length bytes))) →
+pub count-is : (e : GeneralPurpose) → ((bytes : List ℕ) → encode_of e bytes ≡ padded_columns bytes)
+    → (bytes : List ℕ) (room count : ℕ) (result : Result ℕ EncodeSliceError) →
+    result ≡ Ok count → 4 * ((length bytes + 2) / 3) ≤ room
+    → (encoded_size_of e (length bytes) ≤ room → result ≡ Ok (encoded_size_of e (length bytes))) →
     count ≡ encoded_size_of e (length bytes)
 count-is e h bytes room count result is fits ensured =
-    let same : Path (Result ℕ EncodeSliceError) (Ok count) (Ok (encoded_size_of e (length bytes))) = sym is ∙ ensured (omega (arith, encoded_size-is e h bytes, fits)) in
+    let same : Path (Result ℕ EncodeSliceError) (Ok count) (Ok (encoded_size_of e (length bytes))) =
+    sym is ∙ ensured (omega (arith, encoded_size-is e h bytes, fits)) in
     cc
 
 -- LF after columns that were written to the front

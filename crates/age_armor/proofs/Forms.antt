@@ -11,7 +11,8 @@ use Rattle.age_armor.specs.Stages.{is_start, has_lines}
 use Rattle.age_armor.specs.PrivateStages.{FindsForm}
 use Rattle.age_armor.specs.Ahead.{rest_ahead, shown_ahead}
 
-form_found : (content rest : Stretch) (place origin : ℕ) (armored : Bool) → StandsIn content place rest → origin ≡ place → FindsForm armored rest.bytes →
+form_found : (content rest : Stretch) (place origin : ℕ) (armored : Bool) → StandsIn content place rest → origin ≡ place
+    → FindsForm armored rest.bytes →
     FindsForm armored (from_place origin content).bytes
 form_found content rest place origin armored stands at found = elim stands.reaches [
   | inl e ↦ rw at (subst (λ s. FindsForm armored s.bytes) e found)
@@ -19,7 +20,8 @@ form_found content rest place origin armored stands at found = elim stands.reach
 ]
 
 -- the first bytes tell it, and what comes after them keeps it
-pub form_held : (content rest text : Stretch) (place origin : ℕ) (stage next : Stage) → StandsIn content place rest → (is_start stage ≡ true → origin ≡ place) →
+pub form_held : (content rest text : Stretch) (place origin : ℕ) (stage next : Stage) → StandsIn content place rest
+    → (is_start stage ≡ true → origin ≡ place) →
     (is_start stage ≡ true → FindsForm (has_lines next) rest.bytes) → (is_start stage ≡ false → has_lines next ≡ has_lines stage) →
     (is_start stage ≡ false → FindsForm (has_lines stage) (from_place origin content).bytes) →
     text ≡ from_place origin content → FindsForm (has_lines next) text.bytes
@@ -32,14 +34,16 @@ pub form_kept : (armored : Bool) (old new : Stretch) → FindsForm armored old.b
 form_kept armored old new is same = rw same is
 
 -- a text that doesn't begin as armor does is read without lines
-pub plain_stage : (stage : Stage) (text : Stretch) → (is_start stage ≡ false → FindsForm (has_lines stage) text.bytes) → begins_armor text.bytes ≡ false →
+pub plain_stage : (stage : Stage) (text : Stretch) → (is_start stage ≡ false → FindsForm (has_lines stage) text.bytes)
+    → begins_armor text.bytes ≡ false →
     has_lines stage ≡ false
 plain_stage Start text form plain = refl
 plain_stage Binary text form plain = refl
 plain_stage (Lines s) text form plain = (form refl).same ∙ plain
 plain_stage Ended text form plain = (form refl).same ∙ plain
 
-pub plain_rest : (content rest : Stretch) (place origin : ℕ) → StandsIn content place rest → origin ≡ place → begins_armor (from_place origin content).bytes ≡ false →
+pub plain_rest : (content rest : Stretch) (place origin : ℕ) → StandsIn content place rest → origin ≡ place
+    → begins_armor (from_place origin content).bytes ≡ false →
     begins_armor rest.bytes ≡ false
 plain_rest content rest place origin stands at plain = elim stands.reaches [
   | inl e ↦ ap (λ s. begins_armor s.bytes) e ∙ (rw at at plain)

@@ -74,7 +74,8 @@ module _ {R : Type 0} {buf : buffered.Ghosts R} {read : Ghosts R} where
 
   -- ---- to a mark, and on from there
 
-  pub came-on : {A B : Type 0} {x : A} {y : B} {may more : ArmoredReader R buf read → Error → Type 0} (a b c : ArmoredReader R buf read) (target : ℕ) →
+  pub came-on : {A B : Type 0} {x : A} {y : B} {may more : ArmoredReader R buf read → Error → Type 0} (a b c : ArmoredReader R buf read)
+      (target : ℕ) →
       Goes armored_reader may a b (Ok x) → KeepsText a b → StandsInText a b (Ok x) →
       Goes armored_reader more b c (Ok y) → KeepsText b c → c.failed ≡ false → WalksAlong b c target (Ok y) → EndsAsBefore b c (Ok y) →
       (IsTrue (read.tells c.source.inner) → IsTrue (read.steady c.source.inner) → c.place ≤ length (armored_content c).bytes) → Came a c
@@ -88,12 +89,14 @@ module _ {R : Type 0} {buf : buffered.Ghosts R} {read : Ghosts R} where
         text = text-later a b c back first_text last_text;
         good = good;
         stands = λ told steady.
-            along.rest (back.tells ∙ told) (first.rest told steady ∙ ap (from_place b.place) (sym (back.content told))) ∙ ap (from_place c.place) (back.content told);
+            along.rest (back.tells ∙ told) (first.rest told steady ∙ ap (from_place b.place) (sym (back.content told)))
+            ∙ ap (from_place c.place) (back.content told);
         within = λ told steady. subst (λ s. c.place ≤ length s.bytes) (same.content told) (inside (same.tells ∙ told) (same.steady ∙ steady));
         ending = λ told steady. ends.same (back.tells ∙ told) ∙ first.ending told steady;
       }
 
-  pub came-goes : {A : Type 0} {x : A} {may : ArmoredReader R buf read → Error → Type 0} (a b : ArmoredReader R buf read) → Came a b → Goes armored_reader may a b (Ok x)
+  pub came-goes : {A : Type 0} {x : A} {may : ArmoredReader R buf read → Error → Type 0} (a b : ArmoredReader R buf read) → Came a b
+      → Goes armored_reader may a b (Ok x)
   came-goes a b came = record { keeps = keeps-done _ _ _ _ came.same came.narrows; unspent = came.unspent }
 
   pub came-stands : {A : Type 0} {x : A} (a b : ArmoredReader R buf read) → Came a b → StandsInText a b (Ok x)
@@ -102,7 +105,8 @@ module _ {R : Type 0} {buf : buffered.Ghosts R} {read : Ghosts R} where
   -- its clean end is that of what the text carries
   pub came-end : (a b : ArmoredReader R buf read) → Came a b → WhereTold a (IsCleanEnd (armored_rest b)) →
       WhereSteady a (IsTrue (armored_content a).ends_well × (b.place ≡ length (armored_content a).bytes))
-  came-end a b came clean told steady = ends_at (armored_content a) (armored_rest b) b.place (came.stands told steady) (clean told) (came.within told steady)
+  came-end a b came clean told steady = ends_at (armored_content a) (armored_rest b) b.place (came.stands told steady) (clean told)
+      (came.within told steady)
 
   -- there the length is known, and with it the target at a distance from it, which is written in another way
   pub found-end : (a b : ArmoredReader R buf read) (d e : ℤ) (r answer : Result ℕ Error) → Came a b →
@@ -110,18 +114,22 @@ module _ {R : Type 0} {buf : buffered.Ghosts R} {read : Ghosts R} where
       (b.place < 2 ^ 63 → (place : ℕ) → r ≡ sought (End d) place b.place) → r ≡ answer →
       WhereSteady a (sought (End e) a.place (length (armored_content a).bytes) ≡ answer)
   found-end a b d e r answer came end same exact is told steady =
-      subst (λ n. sought (End e) a.place n ≡ answer) (end told steady).1 (from-end d e b.place r answer same (exact (b.sound.fits (came.same.tells ∙ told))) is a.place)
+      subst (λ n. sought (End e) a.place n ≡ answer) (end told steady).1
+      (from-end d e b.place r answer same (exact (b.sound.fits (came.same.tells ∙ told))) is a.place)
 
   -- the walk refused
   pub walk-goes : {A B : Type 0} {x : A} (below : Error → Type 0) (a b c : ArmoredReader R buf read) (e answer : Error) →
-      Goes armored_reader (OrSeek (OrAstray below) refuses_of) a b (Ok x) → Goes {A = B} armored_reader refuses_of b c (Err e) → (answer ≢ Failed → answer ≡ e) →
+      Goes armored_reader (OrSeek (OrAstray below) refuses_of) a b (Ok x) → Goes {A = B} armored_reader refuses_of b c (Err e)
+      → (answer ≢ Failed → answer ≡ e) →
       Goes {A = ℕ} armored_reader (OrSeek (OrAstray below) refuses_of) a c (Err answer)
   walk-goes below a b c e answer went goes kept =
       goes-later armored_reader _ (Err answer) a b c went.keeps.same went.keeps.narrows (seeks-plain (OrAstray below) a b went.keeps.narrows)
       (goes-unrefused armored_reader below refuses_of b c e answer kept (goes-seeking armored_reader (OrAstray below) refuses_of _ b c goes))
 
-  pub walk-misses : {A B : Type 0} {x : A} {may more : ArmoredReader R buf read → Error → Type 0} (a b c : ArmoredReader R buf read) (to : SeekFrom) (target : ℕ)
-      (e answer : Error) → (IsTrue (read.tells a.source.inner) → IsTrue (read.content a.source.inner).ends_well → IsTrue (read.steady a.source.inner)) →
+  pub walk-misses : {A B : Type 0} {x : A} {may more : ArmoredReader R buf read → Error → Type 0} (a b c : ArmoredReader R buf read)
+      (to : SeekFrom) (target : ℕ)
+      (e answer : Error) → (IsTrue (read.tells a.source.inner) → IsTrue (read.content a.source.inner).ends_well
+      → IsTrue (read.steady a.source.inner)) →
       Goes armored_reader may a b (Ok x) → StandsInText a b (Ok x) →
       Goes {A = B} armored_reader more b c (Err e) → WalksAlong {A = B} b c target (Err e) → EndsAsBefore {A = B} b c (Err e) →
       (IsOutside answer → ⊥) → ((IsOutside e → ⊥) → answer ≡ e) → ((len : ℕ) → len < target → AsksPast to a.place len) → Misses a c to (Err answer)
@@ -134,7 +142,8 @@ module _ {R : Type 0} {buf : buffered.Ghosts R} {read : Ghosts R} where
       let content : armored_content b ≡ armored_content a = back.content told in
       let stands : armored_rest b ≡ from_place b.place (armored_content b) = first.rest told steady ∙ ap (from_place b.place) (sym content) in
       let short = along.short told_middle (back.steady ∙ steady) stands fine calm in
-      let named : NamesEnding (text_outcome_of a).ending e = subst (λ o. NamesEnding o e) (first.ending told steady) (ends.named told_middle first.good fine calm) in
+      let named : NamesEnding (text_outcome_of a).ending e =
+      subst (λ o. NamesEnding o e) (first.ending told steady) (ends.named told_middle first.good fine calm) in
       (still_named _ _ e answer named same, asks (length (armored_content a).bytes) (subst (λ s. length s.bytes < target) content short.1)))
 
   -- ---- a step, and then one to a target that was found from the end
@@ -166,7 +175,8 @@ module _ {R : Type 0} {buf : buffered.Ghosts R} {read : Ghosts R} where
       WhereSteady a (sought (End d) a.place (length (armored_content a).bytes) ≡ Ok aim) →
       Goes armored_reader may b c result → Misses b c (Start aim) result → Misses a c (End d) result
   misses-end a b c d aim result law same text narrows found goes misses =
-      let within : (IsTrue (read.tells a.source.inner) → IsTrue (read.steady a.source.inner) → aim ≤ length (armored_content b).bytes) = λ told steady.
+      let within : (IsTrue (read.tells a.source.inner) → IsTrue (read.steady a.source.inner) → aim ≤ length (armored_content b).bytes) =
+      λ told steady.
       let len = length (armored_content a).bytes in
       subst (λ s. aim ≤ length s.bytes) (sym (same.content told)) (within-moved (target (End d) a.place len) aim len (found told steady)) in
       record {
@@ -175,7 +185,11 @@ module _ {R : Type 0} {buf : buffered.Ghosts R} {read : Ghosts R} where
             (λ e refused refusal. absurd (cc (sym (moved-within aim (length (armored_content b).bytes) (within told steady)) ∙ (refused refusal).1)))
             (misses.refused (same.tells ∙ told) (same.steady ∙ steady));
         named = λ told well. IfErr-weaker result _ _
-            (λ e named own other quiet. absurd (omega (arith, (named own other (quiet_after _ _ _ same.faults goes.keeps.same.faults quiet)).1, within told (law told well))))
+            (λ e named own other quiet. absurd (omega (
+              arith,
+              (named own other (quiet_after _ _ _ same.faults goes.keeps.same.faults quiet)).1,
+              within told (law told well),
+            )))
             (misses.named (same.tells ∙ told) (subst IsTrue (sym (ap (λ t. t.ends_well) (text.same_text told))) well));
       }
 
@@ -187,7 +201,8 @@ module _ {R : Type 0} {buf : buffered.Ghosts R} {read : Ghosts R} where
     stands = stands-later a b c result same text reaches.stands;
     there = reaches.there;
     place = λ told. reaches.place (same.tells ∙ told);
-    exact = λ told steady. IfOk-weaker result _ _ (λ n exact. subst (λ s. sought (Start aim) a.place (length s.bytes) ≡ Ok n) (same.content told) exact)
+    exact = λ told steady. IfOk-weaker result _ _
+        (λ n exact. subst (λ s. sought (Start aim) a.place (length s.bytes) ≡ Ok n) (same.content told) exact)
         (reaches.exact (same.tells ∙ told) (same.steady ∙ steady));
   }
 
@@ -214,7 +229,8 @@ module _ {R : Type 0} {buf : buffered.Ghosts R} {read : Ghosts R} where
         (misses.named (same.tells ∙ told) (subst IsTrue (sym (ap (λ t. t.ends_well) (text.same_text told))) well));
   }
 
-  pub goes-to-later : {T : Type 0} {x : T} {may : ArmoredReader R buf read → Error → Type 0} (below : Error → Type 0) (a b c : ArmoredReader R buf read) (aim : ℕ)
+  pub goes-to-later : {T : Type 0} {x : T} {may : ArmoredReader R buf read → Error → Type 0} (below : Error → Type 0)
+      (a b c : ArmoredReader R buf read) (aim : ℕ)
       (result : Result ℕ Error) → KeepsReader armored_reader may a b (Ok x) → KeepsText a b →
       GoesTo below b c (Start aim) result → GoesTo below a c (Start aim) result
   goes-to-later below a b c aim result keeps text next =
@@ -223,7 +239,8 @@ module _ {R : Type 0} {buf : buffered.Ghosts R} {read : Ghosts R} where
         goes = goes-later armored_reader _ result a b c same keeps.narrows (seeks-plain (OrAstray below) a b keeps.narrows) next.goes;
         text = text-later a b c same text next.text;
         reaches = reaches-later a b c aim result same text next.reaches;
-        misses = misses-later a b c (Start aim) result same text (armor-plain a b keeps.narrows) (λ len. refl) (λ len past. past) next.goes.keeps.same.faults next.misses;
+        misses = misses-later a b c (Start aim) result same text (armor-plain a b keeps.narrows) (λ len. refl)
+            (λ len past. past) next.goes.keeps.same.faults next.misses;
       }
 
   came-later : {T : Type 0} {x : T} {may : ArmoredReader R buf read → Error → Type 0} (a b c : ArmoredReader R buf read) →
@@ -242,8 +259,10 @@ module _ {R : Type 0} {buf : buffered.Ghosts R} {read : Ghosts R} where
             came.ending (same.tells ∙ told) (same.steady ∙ steady) ∙ ap (λ t. (text_delivers t.bytes t.ends_well).ending) (text.same_text told);
       }
 
-  pub reaches-end-later : {T : Type 0} {x : T} {may : ArmoredReader R buf read → Error → Type 0} (below : Error → Type 0) (a b c : ArmoredReader R buf read)
-      (result : Result (Unit {0}) Error) → KeepsReader armored_reader may a b (Ok x) → KeepsText a b → ReachesEnd below b c result → ReachesEnd below a c result
+  pub reaches-end-later : {T : Type 0} {x : T} {may : ArmoredReader R buf read → Error → Type 0} (below : Error → Type 0)
+      (a b c : ArmoredReader R buf read)
+      (result : Result (Unit {0}) Error) → KeepsReader armored_reader may a b (Ok x) → KeepsText a b → ReachesEnd below b c result
+      → ReachesEnd below a c result
   reaches-end-later below a b c result keeps text next =
       let same = keeps.same in
       record {
@@ -253,13 +272,15 @@ module _ {R : Type 0} {buf : buffered.Ghosts R} {read : Ghosts R} where
         end = λ told. next.end (same.tells ∙ told);
         knows = next.knows;
         misses = IfErr-weaker result _ _ (λ e misses d.
-            misses-later a b c (End d) (Err e) same text (armor-plain a b keeps.narrows) (λ len. refl) (λ len past. tt) next.goes.keeps.same.faults (misses d))
+            misses-later a b c (End d) (Err e) same text (armor-plain a b keeps.narrows) (λ len. refl)
+            (λ len past. tt) next.goes.keeps.same.faults (misses d))
             next.misses;
       }
 
   -- the reader that gives the text was asked for the end
   pub jumped-to-end : (below : Error → Type 0) (a b : ArmoredReader R buf read) (result : Result (Unit {0}) Error) →
-      KeepsReader read (OrSeek (OrAstray below) (OrWant read)) a.source.inner b.source.inner result → OnOk result (read.faults b.source.inner < most_faults) →
+      KeepsReader read (OrSeek (OrAstray below) (OrWant read)) a.source.inner b.source.inner result
+      → OnOk result (read.faults b.source.inner < most_faults) →
       WhereTold a (origin_of b ≡ origin_of a) → KeepsText a b → StandsInText a b result → WhereSteady a (b.place ≤ length (armored_content b).bytes) →
       WhereTold a (OnOk result (IsCleanEnd (armored_rest b))) → OnOk result (IsTrue (knows_end b)) → FailsThere a b result →
       (IsTrue (read.tells a.source.inner) → IsTrue (read.content a.source.inner).ends_well →
@@ -284,7 +305,8 @@ module _ {R : Type 0} {buf : buffered.Ghosts R} {read : Ghosts R} where
         misses = tt;
       }
   jumped-to-end below a b (Err e) keeps few origin text stands inside end knows fails cause = record {
-    goes = armored-refused _ a b e keeps origin (λ why. elim why [ inl is ↦ inl is | inr want ↦ inr (inr (want-own read a.source.inner (text_outcome_of a).ending e want)) ]);
+    goes = armored-refused _ a b e keeps origin
+        (λ why. elim why [ inl is ↦ inl is | inr want ↦ inr (inr (want-own read a.source.inner (text_outcome_of a).ending e want)) ]);
     text = text;
     came = tt;
     end = λ told. tt;
@@ -366,7 +388,8 @@ module _ {R : Type 0} {buf : buffered.Ghosts R} {read : Ghosts R} where
       } in
       let returns : (IsTrue (armored_reader.tells a) → IsTrue (armored_content a).ends_well → IsOutside error → answer ≢ OutOfMemory →
       IsQuiet (armored_reader.faults a) (armored_reader.faults c) → IsOutside answer) = λ told well is other quiet.
-      back.cause (goes.same.tells ∙ told) (subst (λ s. IsTrue s.ends_well) (sym (goes.same.content told)) well) is other (quiet_after _ _ _ first last quiet) in
+      back.cause (goes.same.tells ∙ told) (subst (λ s. IsTrue s.ends_well) (sym (goes.same.content told)) well) is other
+      (quiet_after _ _ _ first last quiet) in
       record {
         seeks = seeks-refused armored_reader (λ r. r.failed) below a c to answer keeps
             (λ refusal e h. elim (back.narrows refusal e h) [
@@ -376,7 +399,8 @@ module _ {R : Type 0} {buf : buffered.Ghosts R} {read : Ghosts R} where
             (λ told. back.stays (goes.same.tells ∙ told))
             (λ told is_steady stands refusal. elim (cases_Bool a.failed) [
               | inl had ↦ back.gone had ∙ sym (gone a had)
-              | inr fine ↦ back.back (goes.same.tells ∙ told) (goes.same.steady ∙ is_steady) fine refusal ∙ ap (from_place a.place) (goes.same.content told) ∙ sym stands
+              | inr fine ↦ back.back (goes.same.tells ∙ told) (goes.same.steady ∙ is_steady) fine refusal
+                  ∙ ap (from_place a.place) (goes.same.content told) ∙ sym stands
             ])
             (λ told well refusal. subst (λ e. sought to a.place (length (armored_content a).bytes) ≡ Err e) (sym (back.unmoved refusal).1)
             (misses.refused told (law told (inner well)) (back.unmoved refusal).0).1)
@@ -395,10 +419,12 @@ module _ {R : Type 0} {buf : buffered.Ghosts R} {read : Ghosts R} where
               let is_named = misses.named told well not (λ memory. other (back.other not ∙ memory)) (quiet-first _ _ _ first last quiet) in
               (subst (NamesEnding (text_outcome_of a).ending) (sym (back.other not)) is_named.0, is_named.1)
         ];
-        early = λ told is_steady badly_ends refusal. absurd (true≢false (sym (misses.refused told is_steady (back.unmoved refusal).0).0 ∙ badly_ends));
+        early = λ told is_steady badly_ends refusal.
+            absurd (true≢false (sym (misses.refused told is_steady (back.unmoved refusal).0).0 ∙ badly_ends));
       }
 
-  pub takes-back : {may : ArmoredReader R buf read → Error → Type 0} {below : Error → Type 0} (a b c : ArmoredReader R buf read) (to : SeekFrom) (error answer : Error) →
+  pub takes-back : {may : ArmoredReader R buf read → Error → Type 0} {below : Error → Type 0} (a b c : ArmoredReader R buf read) (to : SeekFrom)
+      (error answer : Error) →
       Goes {A = ℕ} armored_reader may a b (Err error) → SparesReading a b to (Err error) →
       ComesBack armored_reader (λ r. r.failed) below b c a.place a.failed error answer →
       (IsTrue (read.tells b.source.inner) → IsTrue (read.steady b.source.inner) → b.failed ≡ a.failed → b.place ≡ a.place → IsOutside answer →

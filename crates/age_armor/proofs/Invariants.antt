@@ -31,7 +31,8 @@ use Rattle.age_armor.proofs.Walking.{further}
 
 module _ {R : Type 0} {buf : buffered.Ghosts R} {read : Ghosts R} where
   -- the reader that gives the text was moved, and this one has failed at this place
-  pub sound-failed : (a : ArmoredReader R buf read) (source : Counted R buf read) (preceding place : ℕ) (held : List ℕ) → SameReader read a.source.inner source.inner →
+  pub sound-failed : (a : ArmoredReader R buf read) (source : Counted R buf read) (preceding place : ℕ) (held : List ℕ)
+      → SameReader read a.source.inner source.inner →
       WhereTold a (read.place source.inner - source.taken + preceding ≡ origin_of a) → WhereSteady a (preceding ≤ source.taken) →
       WhereTold a (place < 2 ^ 63) → WhereSteady a (place ≤ length (armored_content a).bytes) → a.source.lines ≤ source.lines →
       IsSound source preceding a.stage held place true a.marks
@@ -61,8 +62,10 @@ module _ {R : Type 0} {buf : buffered.Ghosts R} {read : Ghosts R} where
       }
 
   -- so many bytes of what is held were given
-  pub sound-given : (a : ArmoredReader R buf read) (n place : ℕ) (front left : List ℕ) → n ≤ length (held_in a.window) → n ≡ length front → left ≡ drop n (held_in a.window) →
-      Delivers front (rest_ahead a.failed (held_in a.window) a.stage (read.rest a.source.inner)) (rest_ahead a.failed (drop n (held_in a.window)) a.stage (read.rest a.source.inner)) →
+  pub sound-given : (a : ArmoredReader R buf read) (n place : ℕ) (front left : List ℕ) → n ≤ length (held_in a.window) → n ≡ length front
+      → left ≡ drop n (held_in a.window) →
+      Delivers front (rest_ahead a.failed (held_in a.window) a.stage (read.rest a.source.inner))
+      (rest_ahead a.failed (drop n (held_in a.window)) a.stage (read.rest a.source.inner)) →
       (IsTrue (read.tells a.source.inner) → place ≡ a.place + n) → (a.failed ≡ true → n ≡ 0) →
       (IsTrue (read.tells a.source.inner) → read.place a.source.inner < 2 ^ 63) →
       IsSound a.source a.preceding a.stage left place a.failed a.marks
@@ -71,7 +74,8 @@ module _ {R : Type 0} {buf : buffered.Ghosts R} {read : Ghosts R} where
       let content = carried_in a.source a.preceding in
       let rest = rest_ahead a.failed held a.stage (read.rest a.source.inner) in
       let new = rest_ahead a.failed (drop n held) a.stage (read.rest a.source.inner) in
-      let same : (outcome_ahead (drop n held) a.stage (read.rest a.source.inner)).ending ≡ (outcome_ahead held a.stage (read.rest a.source.inner)).ending =
+      let same : (outcome_ahead (drop n held) a.stage (read.rest a.source.inner)).ending
+      ≡ (outcome_ahead held a.stage (read.rest a.source.inner)).ending =
       ending_same held (drop n held) a.stage (read.rest a.source.inner) in
       let fewer : length (drop n held) ≡ length held - n = length-drop n held in
       record {
@@ -98,7 +102,8 @@ module _ {R : Type 0} {buf : buffered.Ghosts R} {read : Ghosts R} where
         text = λ told steady.
             let before = a.sound.text told steady in
             let stands : StandsIn content place new =
-            rw (moves told) (given_stands content rest new a.place n front size d (stands_by content rest a.place before.inside (λ some. (before.follows some).rest))) in
+            rw (moves told) (given_stands content rest new a.place n front size d
+            (stands_by content rest a.place before.inside (λ some. (before.follows some).rest))) in
             record {
               behind = before.behind;
               inside = stands.within;
@@ -115,9 +120,11 @@ module _ {R : Type 0} {buf : buffered.Ghosts R} {read : Ghosts R} where
       })
 
   -- the reader that gives the text was taken to where this one can be read on
-  pub sound-resumed : (a : ArmoredReader R buf read) (source : Counted R buf read) (preceding : ℕ) (stage : Stage) (held : List ℕ) (place taken : ℕ) (marks : Marks) → held ≡ [] →
+  pub sound-resumed : (a : ArmoredReader R buf read) (source : Counted R buf read) (preceding : ℕ) (stage : Stage) (held : List ℕ)
+      (place taken : ℕ) (marks : Marks) → held ≡ [] →
       SameReader read a.source.inner source.inner → WhereTold a (read.place source.inner - source.taken + preceding ≡ origin_of a) →
-      source.taken ≡ preceding + taken → read.faults source.inner < most_faults → (IsTrue (read.tells source.inner) → read.place source.inner < 2 ^ 63) →
+      source.taken ≡ preceding + taken → read.faults source.inner < most_faults
+      → (IsTrue (read.tells source.inner) → read.place source.inner < 2 ^ 63) →
       (is_start stage ≡ true → (taken ≡ 0) × (place ≡ 0)) → is_ended stage ≡ false → (stage ≡ Lines false → place % 48 ≡ 0) →
       WhereTold a (CanResume (read.steady a.source.inner) (source_of a) stage place taken) →
       WhereSteady a (read.rest source.inner ≡ from_place (origin_of a + taken) (read.content a.source.inner)) →
@@ -125,14 +132,17 @@ module _ {R : Type 0} {buf : buffered.Ghosts R} {read : Ghosts R} where
       WhereSteady a (is_start stage ≡ true → 0 < marks.furthest → IsTrue (begins_armor (source_of a).bytes)) →
       WhereTold a ((stage ≡ Binary → ⊥) → marks.furthest ≤ 48 * source.lines) →
       IsSound source preceding stage held place false marks
-  sound-resumed a source preceding stage held place taken marks none same origin is_taken few place_fits start going whole can rest knows unread lined =
+  sound-resumed a source preceding stage held place taken marks none same origin is_taken few place_fits start going whole can rest knows unread
+      lined =
       let content = read.content a.source.inner in
       let text = same-text read a.source.inner (origin_of a) source.inner (read.place source.inner - source.taken + preceding) same origin in
-      let here : (IsTrue (read.tells source.inner) → IsTrue (read.steady source.inner) → IsHere source preceding stage held place false) = λ told steady.
+      let here : (IsTrue (read.tells source.inner) → IsTrue (read.steady source.inner) → IsHere source preceding stage held place false) =
+      λ told steady.
       let there = rest (text.told told) (text.steady steady) in
       let resumes = (can (text.told told)).1 (text.steady steady) in
       record {
-        rest = resumed_rest content (read.rest source.inner) (origin_of a) place taken stage held none resumes there ∙ ap (from_place place) (sym (text.content told));
+        rest = resumed_rest content (read.rest source.inner) (origin_of a) place taken stage held none resumes there
+            ∙ ap (from_place place) (sym (text.content told));
         ending = resumed_ending content (read.rest source.inner) (origin_of a) place taken stage held resumes there
             ∙ sym (ap (λ t. (text_delivers t.bytes t.ends_well).ending) (text.text told));
       } in
@@ -158,6 +168,7 @@ module _ {R : Type 0} {buf : buffered.Ghosts R} {read : Ghosts R} where
           here = λ good begun. here told steady;
           follows = λ some. here told steady;
           form = λ begun. form_kept (has_lines stage) _ _ (((can (text.told told)).1 (text.steady steady)).form begun) (text.text told);
-          unread = λ is some. subst (λ t. IsTrue (begins_armor t.bytes)) (sym (text.text told)) (unread (text.told told) (text.steady steady) is some);
+          unread = λ is some. subst (λ t. IsTrue (begins_armor t.bytes)) (sym (text.text told))
+              (unread (text.told told) (text.steady steady) is some);
         };
       }

@@ -59,10 +59,12 @@ module _ {R : Type 0} (read : Ghosts R) where
   -- two steps, and then a refusal that isn't the device's
   pub goes-refused : {T : Type 0} (may : R → Error → Type 0) (a b c : R) (e : Error) → SameReader read a b → SameReader read b c → (IsDevice e → ⊥) →
       may a e → Goes {A = T} read may a c (Err e)
-  goes-refused may a b c e first second other why = record { keeps = keeps-refused read may a c e (same-later read a b c first second) other why; unspent = tt }
+  goes-refused may a b c e first second other why =
+      record { keeps = keeps-refused read may a c e (same-later read a b c first second) other why; unspent = tt }
 
   -- the refusal of a call is passed on
-  pub goes-error : {A B : Type 0} (may : R → Error → Type 0) (a b : R) (e : Error) → KeepsReader {T = A} read may a b (Err e) → Goes {A = B} read may a b (Err e)
+  pub goes-error : {A B : Type 0} (may : R → Error → Type 0) (a b : R) (e : Error) → KeepsReader {T = A} read may a b (Err e)
+      → Goes {A = B} read may a b (Err e)
   goes-error may a b e keeps = record {
     keeps = record { same = keeps.same; device = keeps.device; patient = keeps.patient; why = keeps.why; narrows = tt };
     unspent = tt;
@@ -71,10 +73,14 @@ module _ {R : Type 0} (read : Ghosts R) where
   -- a call that refuses as one that seeks may
   pub goes-seeking : {T : Type 0} (own : Error → Type 0) (may : R → Error → Type 0) (result : Result T Error) (a b : R) → Goes read may a b result →
       Goes read (OrSeek own may) a b result
-  goes-seeking own may result a b goes = record { keeps = keeps-more read may (OrSeek own may) result a b (λ e why. inr why) goes.keeps; unspent = goes.unspent }
+  goes-seeking own may result a b goes = record {
+    keeps = keeps-more read may (OrSeek own may) result a b (λ e why. inr why) goes.keeps;
+    unspent = goes.unspent;
+  }
 
   -- a refusal of which nothing is left but that it failed, where it was that of a seek, or the same one
-  pub goes-unrefused : {T U : Type 0} (below : Error → Type 0) (may : R → Error → Type 0) (a b : R) (e answer : Error) → (answer ≢ Failed → answer ≡ e) →
+  pub goes-unrefused : {T U : Type 0} (below : Error → Type 0) (may : R → Error → Type 0) (a b : R) (e answer : Error)
+      → (answer ≢ Failed → answer ≡ e) →
       Goes {A = T} read (OrSeek (OrAstray below) may) a b (Err e) → Goes {A = U} read (OrSeek (OrAstray below) may) a b (Err answer)
   goes-unrefused below may a b e answer kept goes = record {
     keeps = record {
@@ -104,11 +110,6 @@ module _ {R : Type 0} {buf : buffered.Ghosts R} {read : Ghosts R} where
 -- ---- an armored reader
 
 module _ {R : Type 0} {buf : buffered.Ghosts R} {read : Ghosts R} where
-  -- where no more bytes precede the text, it begins where it began
-  pub origin-kept : (a b : ArmoredReader R buf read) → b.preceding ≡ a.preceding →
-      WhereTold a (read.place b.source.inner - b.source.taken ≡ read.place a.source.inner - a.source.taken) → WhereTold a (origin_of b ≡ origin_of a)
-  origin-kept a b before same told = omega (arith, before, same told)
-
   pub armor-patient : (r : ArmoredReader R buf read) (e : Error) → refuses_of r e → IsInterruption e → ⊥
   armor-patient r e h is = elim h [
     | inl own ↦ subst IsInterruption own.1 is
@@ -121,7 +122,8 @@ module _ {R : Type 0} {buf : buffered.Ghosts R} {read : Ghosts R} where
   pub armor-plain : (a b : ArmoredReader R buf read) → AddsNoReason (TriedAgain refuses_of) a b → AddsNoReason refuses_of a b
   armor-plain a b narrows = plain-narrows refuses_of a b armor-patient narrows
 
-  pub seeks-plain : (own : Error → Type 0) (a b : ArmoredReader R buf read) → AddsNoReason (TriedAgain refuses_of) a b → AddsNoReason (OrSeek own refuses_of) a b
+  pub seeks-plain : (own : Error → Type 0) (a b : ArmoredReader R buf read) → AddsNoReason (TriedAgain refuses_of) a b
+      → AddsNoReason (OrSeek own refuses_of) a b
   seeks-plain own a b narrows = seek-narrows own refuses_of a b (armor-plain a b narrows)
 
   -- a step that adds no reason to the inner reader, after which it hasn't failed
@@ -157,7 +159,8 @@ module _ {R : Type 0} {buf : buffered.Ghosts R} {read : Ghosts R} where
   ]
 
   -- and one that hasn't, with none
-  pub still-narrows : (a b : ArmoredReader R buf read) → b.source ≡ a.source → b.preceding ≡ a.preceding → b.failed ≡ false → AddsNoReason refuses_of a b
+  pub still-narrows : (a b : ArmoredReader R buf read) → b.source ≡ a.source → b.preceding ≡ a.preceding → b.failed ≡ false
+      → AddsNoReason refuses_of a b
   still-narrows a b is before good e h = elim h [
     | inl own ↦ absurd (true≢false (sym own.0 ∙ good))
     | inr reading ↦ inr (same-refuses a b e is before reading)
@@ -174,7 +177,8 @@ module _ {R : Type 0} {buf : buffered.Ghosts R} {read : Ghosts R} where
   }
 
   -- a step of the reader that gives the text
-  pub armored-done : {A B : Type 0} {x : A} {y : B} {below : R → Error → Type 0} (may : ArmoredReader R buf read → Error → Type 0) (a b : ArmoredReader R buf read) →
+  pub armored-done : {A B : Type 0} {x : A} {y : B} {below : R → Error → Type 0} (may : ArmoredReader R buf read → Error → Type 0)
+      (a b : ArmoredReader R buf read) →
       KeepsReader {T = A} read below a.source.inner b.source.inner (Ok x) →
       WhereTold a (origin_of b ≡ origin_of a) →
       read.faults b.source.inner < most_faults → b.failed ≡ false → Goes {A = B} armored_reader may a b (Ok y)
@@ -184,7 +188,8 @@ module _ {R : Type 0} {buf : buffered.Ghosts R} {read : Ghosts R} where
     unspent = few;
   }
 
-  pub armored-refused : {A B : Type 0} {below : R → Error → Type 0} (may : ArmoredReader R buf read → Error → Type 0) (a b : ArmoredReader R buf read) (e : Error) →
+  pub armored-refused : {A B : Type 0} {below : R → Error → Type 0} (may : ArmoredReader R buf read → Error → Type 0)
+      (a b : ArmoredReader R buf read) (e : Error) →
       KeepsReader {T = A} read below a.source.inner b.source.inner (Err e) →
       WhereTold a (origin_of b ≡ origin_of a) →
       (below a.source.inner e → may a e) → Goes {A = B} armored_reader may a b (Err e)
@@ -198,16 +203,19 @@ module _ {R : Type 0} {buf : buffered.Ghosts R} {read : Ghosts R} where
   pub stands_inside : (r : ArmoredReader R buf read) → WhereSteady r (r.place ≤ length (armored_content r).bytes)
   stands_inside r told steady = (r.sound.text told steady).inside
 
-  pub follows_text : (r : ArmoredReader R buf read) → WhereSteady r ((armored_rest r ≡ nothing → ⊥) → armored_rest r ≡ from_place r.place (armored_content r))
+  pub follows_text : (r : ArmoredReader R buf read)
+      → WhereSteady r ((armored_rest r ≡ nothing → ⊥) → armored_rest r ≡ from_place r.place (armored_content r))
   follows_text r told steady some = ((r.sound.text told steady).follows some).rest
 
-  pub ends_as_text : (r : ArmoredReader R buf read) → WhereSteady r ((armored_rest r ≡ nothing → ⊥) → (outcome_of r).ending ≡ (text_outcome_of r).ending)
+  pub ends_as_text : (r : ArmoredReader R buf read)
+      → WhereSteady r ((armored_rest r ≡ nothing → ⊥) → (outcome_of r).ending ≡ (text_outcome_of r).ending)
   ends_as_text r told steady some = ((r.sound.text told steady).follows some).ending
 
   pub held_shown : (r : ArmoredReader R buf read) → r.failed ≡ false → length (shown_of r) ≡ length (held_in r.window)
   held_shown r good = length_held r.failed (held_in r.window) good
 
-  pub reached : (r : ArmoredReader R buf read) → IsTrue (read.tells r.source.inner) → r.failed ≡ false → r.place + length (shown_of r) ≤ r.marks.furthest
+  pub reached : (r : ArmoredReader R buf read) → IsTrue (read.tells r.source.inner) → r.failed ≡ false
+      → r.place + length (shown_of r) ≤ r.marks.furthest
   reached r told good = omega (arith, (r.sound.paced told good).within, held_shown r good)
 
   pub gone : (r : ArmoredReader R buf read) → r.failed ≡ true → armored_rest r ≡ nothing
@@ -219,7 +227,8 @@ pub good-done : {A : Type 0} {x : A} (old new : Bool) → old ≡ false → new 
 good-done old new before now = record { failed = λ gone. absurd (true≢false (sym gone ∙ before)); fails = tt; good = now; patient = tt }
 
 pub good-failed : {A : Type 0} (old new : Bool) (e : Error) → old ≡ false → IsTrue new → (IsInterruption e → ⊥) → FailsForGood {A = A} old new (Err e)
-good-failed old new e before fails patient = record { failed = λ gone. absurd (true≢false (sym gone ∙ before)); fails = fails; good = tt; patient = patient }
+good-failed old new e before fails patient =
+    record { failed = λ gone. absurd (true≢false (sym gone ∙ before)); fails = fails; good = tt; patient = patient }
 
 pub fails-passed : {A B : Type 0} (old new : Bool) (e : Error) → FailsForGood {A = A} old new (Err e) → FailsForGood {A = B} old new (Err e)
 fails-passed old new e fails = record { failed = fails.failed; fails = fails.fails; good = tt; patient = fails.patient }
@@ -263,7 +272,8 @@ module _ {R : Type 0} {buf : buffered.Ghosts R} {read : Ghosts R} where
     learns = learns_later a.marks b.marks c.marks first.learns last.learns;
     counts = omega (arith, first.counts, last.counts);
     bare = λ told steady plain.
-        last.bare (same.tells ∙ told) (same.steady ∙ steady) (ap (λ t. begins_armor t.bytes) (first.same_text told) ∙ plain) ∙ first.bare told steady plain;
+        last.bare (same.tells ∙ told) (same.steady ∙ steady) (ap (λ t. begins_armor t.bytes) (first.same_text told) ∙ plain)
+        ∙ first.bare told steady plain;
   }
 
   pub text-learned : {A : Type 0} {result : Result A Error} (a b : ArmoredReader R buf read) → WhereTold a (source_of b ≡ source_of a) →
@@ -285,7 +295,8 @@ module _ {R : Type 0} {buf : buffered.Ghosts R} {read : Ghosts R} where
   pub form-found : (a b : ArmoredReader R buf read) → SameReader armored_reader a b → KeepsText a b → is_start b.stage ≡ false →
       IsTrue (read.tells a.source.inner) → IsTrue (read.steady a.source.inner) → has_lines b.stage ≡ begins_armor (source_of a).bytes
   form-found a b same text begun told steady =
-      (form_kept (has_lines b.stage) (source_of b) (source_of a) ((b.sound.text (same.tells ∙ told) (same.steady ∙ steady)).form begun) (sym (text.same_text told))).same
+      (form_kept (has_lines b.stage) (source_of b) (source_of a) ((b.sound.text (same.tells ∙ told) (same.steady ∙ steady)).form begun)
+      (sym (text.same_text told))).same
 
   -- ---- a read
 
@@ -299,9 +310,11 @@ module _ {R : Type 0} {buf : buffered.Ghosts R} {read : Ghosts R} where
   }
 
   pub reads-done : (a b : ArmoredReader R buf read) (into : List ℕ) (n : ℕ) → KeepsReader armored_reader refuses_of a b (Ok n) →
-      (0 < length into → read.faults b.source.inner < most_faults) → n ≤ length into → WhereTold a (Delivers (take n into) (armored_rest a) (armored_rest b)) →
+      (0 < length into → read.faults b.source.inner < most_faults) → n ≤ length into
+      → WhereTold a (Delivers (take n into) (armored_rest a) (armored_rest b)) →
       WhereTold a (b.place ≡ a.place + n) → WhereTold a (n ≡ 0 → 0 < length into → IsCleanEnd (armored_rest a)) →
-      Reads armored_reader.tells armored_reader.steady armored_reader.content armored_reader.place armored_reader.rest armored_reader.faults refuses_of a b into (Ok n)
+      Reads armored_reader.tells armored_reader.steady armored_reader.content armored_reader.place armored_reader.rest armored_reader.faults
+      refuses_of a b into (Ok n)
   reads-done a b into n keeps few count bytes moves end = record {
     count = count;
     same_tells = keeps.same.tells;
@@ -324,8 +337,10 @@ module _ {R : Type 0} {buf : buffered.Ghosts R} {read : Ghosts R} where
 
   pub reads-failed : {A : Type 0} (a b : ArmoredReader R buf read) (into : List ℕ) (e : Error) → Goes {A = A} armored_reader refuses_of a b (Err e) →
       b.place ≡ a.place → b.failed ≡ true →
-      (IsTrue (read.tells a.source.inner) → e ≢ OutOfMemory → IsQuiet (read.faults a.source.inner) (read.faults b.source.inner) → IsFault (armored_rest a)) →
-      Reads armored_reader.tells armored_reader.steady armored_reader.content armored_reader.place armored_reader.rest armored_reader.faults refuses_of a b into (Err e)
+      (IsTrue (read.tells a.source.inner) → e ≢ OutOfMemory → IsQuiet (read.faults a.source.inner) (read.faults b.source.inner)
+      → IsFault (armored_rest a)) →
+      Reads armored_reader.tells armored_reader.steady armored_reader.content armored_reader.place armored_reader.rest armored_reader.faults
+      refuses_of a b into (Err e)
   reads-failed a b into e goes stays fails cause = record {
     count = tt;
     same_tells = goes.keeps.same.tells;
@@ -346,10 +361,13 @@ module _ {R : Type 0} {buf : buffered.Ghosts R} {read : Ghosts R} where
     cause = cause;
   }
 
-  pub fills-failed : {A : Type 0} {shown : ArmoredReader R buf read → List ℕ} {besides : ArmoredReader R buf read → ArmoredReader R buf read → Result (Bor (List ℕ)) Error → Type 0}
+  pub fills-failed : {A : Type 0} {shown : ArmoredReader R buf read → List ℕ}
+      {besides : ArmoredReader R buf read → ArmoredReader R buf read → Result (Bor (List ℕ)) Error → Type 0}
       (a b : ArmoredReader R buf read) (e : Error) → Goes {A = A} armored_reader refuses_of a b (Err e) → b.place ≡ a.place → b.failed ≡ true →
-      WhereTold a (e ≢ OutOfMemory → IsQuiet (read.faults a.source.inner) (read.faults b.source.inner) → IsFault (armored_rest a)) → besides a b (Err e) →
-      Fills armored_reader.tells armored_reader.steady armored_reader.content armored_reader.place armored_reader.rest armored_reader.faults refuses_of shown besides a b (Err e)
+      WhereTold a (e ≢ OutOfMemory → IsQuiet (read.faults a.source.inner) (read.faults b.source.inner) → IsFault (armored_rest a))
+      → besides a b (Err e) →
+      Fills armored_reader.tells armored_reader.steady armored_reader.content armored_reader.place armored_reader.rest armored_reader.faults
+      refuses_of shown besides a b (Err e)
   fills-failed a b e goes stays fails cause own = record {
     same_tells = goes.keeps.same.tells;
     same_steady = goes.keeps.same.steady;

@@ -20,7 +20,8 @@ use Rattle.age_armor.specs.Stages.{NamesEnding, ahead, is_start}
 
 -- ---- what holds of each way in which a text may end
 
-module _ (P : Ending → Type 0) (w : Bool) (clean : P (at_end w Clean)) (early : P (at_end w (Refused UnexpectedEof))) (none : P Clean) (fault : P InnerFault)
+module _ (P : Ending → Type 0) (w : Bool) (clean : P (at_end w Clean)) (early : P (at_end w (Refused UnexpectedEof))) (none : P Clean)
+    (fault : P InnerFault)
     (armor : (f : ArmoredReadError) → P (Refused (Armor f))) where
   each_short : (v : Bool) → v ≡ w → P (at_end v (Refused (Armor NotWrappedAt64Chars)))
   each_short true same = armor NotWrappedAt64Chars
@@ -43,7 +44,8 @@ module _ (P : Ending → Type 0) (w : Bool) (clean : P (at_end w Clean)) (early 
   each_section [] s = each_short w refl
   each_section (raw ∷ more) s =
       if_each (w || last_is 10 raw) _ _
-      (each_line (verdict s raw) (section (is_short (line_columns raw)) more w) (trailing (concat more) w) (each_section more (is_short (line_columns raw))) (each_trailing (concat more)))
+      (each_line (verdict s raw) (section (is_short (line_columns raw)) more w) (trailing (concat more) w)
+      (each_section more (is_short (line_columns raw))) (each_trailing (concat more)))
       fault
 
   each_marker : (text : List ℕ) → P (after_marker text w).ending
@@ -92,7 +94,8 @@ end_left content rest place origin held Ended e stands at begun end = sym (begun
 
 -- ---- under another name
 
-named_otherwise : (ending : Ending) (e other : Error) → IsOwn ending → NamesEnding ending e → ((IsOutside e → ⊥) → other ≡ e) → NamesEnding ending other
+named_otherwise : (ending : Ending) (e other : Error) → IsOwn ending → NamesEnding ending e → ((IsOutside e → ⊥) → other ≡ e)
+    → NamesEnding ending other
 named_otherwise Clean e other own named same = named
 named_otherwise (Refused f) e other own named same = same (λ r. own (rw named at r)) ∙ named
 named_otherwise InnerFault e other own named same = tt

@@ -15,7 +15,8 @@ use Rattle.age_v1.specs.DeliveredArmor.{raw_lines}
 use Rattle.age_armor.specs.PrivateCounting.{TakesLines, IsCounted, one_line_more}
 use Rattle.age_armor.proofs.Staging.{none_after_short}
 
-opens_next : (stage : Stage) (rest : Stretch) (front more : List ℕ) → (ahead stage rest).bytes ≡ front ++ more → 0 < length front → is_open stage ≡ true
+opens_next : (stage : Stage) (rest : Stretch) (front more : List ℕ) → (ahead stage rest).bytes ≡ front ++ more → 0 < length front
+    → is_open stage ≡ true
 opens_next Start rest front more bytes some = refl
 opens_next Binary rest front more bytes some = refl
 opens_next (Lines false) rest front more bytes some = refl
@@ -33,7 +34,8 @@ open_stage failed held stage rest new front good none delivers some =
 
 -- what a read takes on the way to the target is counted
 pub counted_on : (old new : Stage) (start counted target place held lines next still more : ℕ) → TakesLines old new place held lines next still more →
-    IsCounted old start counted target place held lines → place < target → (held ≡ 0 → is_open old ≡ true) → IsCounted new start counted target next still more
+    IsCounted old start counted target place held lines → place < target → (held ≡ 0 → is_open old ≡ true)
+    → IsCounted new start counted target next still more
 counted_on old new start counted target place held lines next still more takes before short opens = elim (cases_lt 0 held) [
   | inl some ↦
       let same = takes.held some in
@@ -50,7 +52,8 @@ counted_on old new start counted target place held lines next still more takes b
       }
 ]
   where
-    reached : (new : Stage) → 48 * lines + start ≤ 48 * counted + place + held → held ≡ 0 → is_open new ≡ true → TakesLines old new place held lines next still more →
+    reached : (new : Stage) → 48 * lines + start ≤ 48 * counted + place + held → held ≡ 0 → is_open new ≡ true
+        → TakesLines old new place held lines next still more →
         48 * more + start ≤ 48 * counted + next + still
     reached Start so_far empty is takes = absurd (true≢false takes.begun)
     reached Binary so_far empty is takes = omega (arith, so_far, empty, takes.bare refl, takes.on)

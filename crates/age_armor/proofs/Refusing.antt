@@ -80,13 +80,15 @@ module _ {R : Type 0} (read : Ghosts R) where
   -- a step that adds no reason to refuse
   pub text-narrows : (a b : R) → SameReader read a b → AddsNoReason (TriedAgain read.refuses) a b → AddsNoReason (OrTextRefusal read) a b
   text-narrows a b same narrows e h = elim h [
-    | inl own ↦ inl (text-wider _ _ _ (read.tells a) (read.steady a) (read.content a).ends_well e (λ told. same.tells ∙ told) (λ steady. same.steady ∙ steady)
+    | inl own ↦ inl (text-wider _ _ _ (read.tells a) (read.steady a) (read.content a).ends_well e (λ told. same.tells ∙ told)
+        (λ steady. same.steady ∙ steady)
         (λ told well. subst (λ s. IsTrue s.ends_well) (same.content told) well) own)
     | inr tried ↦ inr (narrows e tried)
   ]
 
   -- a call that asks for bytes, after such a step
-  pub text-asked : (a b : R) (e : Error) → AddsNoReason (TriedAgain read.refuses) a b → (e ≢ OutOfMemory → TriedAgain read.refuses b e) → OrTextRefusal read a e
+  pub text-asked : (a b : R) (e : Error) → AddsNoReason (TriedAgain read.refuses) a b → (e ≢ OutOfMemory → TriedAgain read.refuses b e)
+      → OrTextRefusal read a e
   text-asked a b e narrows why = elim (memory-or-not e) [
     | inl is ↦ inl (subst (IsTextRefusal (read.tells a) (read.steady a) (read.content a).ends_well) (sym is) tt)
     | inr other ↦ inr (narrows e (why other))
@@ -103,7 +105,8 @@ module _ {R : Type 0} (read : Ghosts R) where
   want-asked a e why = elim (memory-or-not e) [ inl is ↦ inl is | inr other ↦ inr (why other) ]
 
   -- however the text ends
-  pub want-own : (a : R) (ending : Ending) (e : Error) → OrWant read a e → IsOwnRefusal (read.tells a) (read.steady a) ending e ⊎ TriedAgain read.refuses a e
+  pub want-own : (a : R) (ending : Ending) (e : Error) → OrWant read a e
+      → IsOwnRefusal (read.tells a) (read.steady a) ending e ⊎ TriedAgain read.refuses a e
   want-own a ending e why = elim why [
     | inl is ↦ inl (subst (IsOwnRefusal (read.tells a) (read.steady a) ending) (sym is) tt)
     | inr tried ↦ inr tried
@@ -131,7 +134,8 @@ module _ {R : Type 0} (read : Ghosts R) where
 
   -- a step, and then a call
   pub kept-on : {B : Type 0} (result : Result B Error) (a b c : R) (k l m : ℕ) → SameReader read a b → AddsNoReason (TriedAgain read.refuses) a b →
-      (IsTrue (read.tells a) → read.place b - l ≡ read.place a - k) → (IsTrue (read.tells a) → k ≤ l) → Kept read b l c m result → Kept read a k c m result
+      (IsTrue (read.tells a) → read.place b - l ≡ read.place a - k) → (IsTrue (read.tells a) → k ≤ l) → Kept read b l c m result
+      → Kept read a k c m result
   kept-on result a b c k l m same narrows origin more next = record {
     keeps = keeps-later read (OrTextRefusal read) result a b c same narrows (text-narrows a b same narrows) next.keeps;
     unspent = next.unspent;
@@ -144,7 +148,8 @@ module _ {R : Type 0} (read : Ghosts R) where
   kept-later result a b c k l m first second = kept-on result a b c k l m first.keeps.same first.keeps.narrows first.origin first.more second
 
   pub kept-asked : {A B : Type 0} {x : A} {y : B} (a b c : R) (k m : ℕ) → SameReader read a b → AddsNoReason (TriedAgain read.refuses) a b →
-      AsksReader read (TriedAgain read.refuses) b c (Ok x) → (IsTrue (read.tells a) → read.place c - m ≡ read.place a - k) → (IsTrue (read.tells a) → k ≤ m) →
+      AsksReader read (TriedAgain read.refuses) b c (Ok x) → (IsTrue (read.tells a) → read.place c - m ≡ read.place a - k)
+      → (IsTrue (read.tells a) → k ≤ m) →
       Kept read a k c m (Ok y)
   kept-asked a b c k m same narrows asks origin more = record {
     keeps = keeps-done read (OrTextRefusal read) a c (same-later read a b c same asks.same) (λ e h. narrows e (asks.narrows e h));

@@ -20,7 +20,8 @@ use Rattle.age_armor.proofs.Staging.{none_after_short}
 use Rattle.age_armor.proofs.Walking.{ends_at}
 
 -- what is known stays known of the same text
-pub knows_later : (old new : Bool) (text same : Stretch) (marks : Marks) → (IsTrue new → IsTrue old) → same ≡ text → Knows old text marks → Knows new same marks
+pub knows_later : (old new : Bool) (text same : Stretch) (marks : Marks) → (IsTrue new → IsTrue old) → same ≡ text → Knows old text marks
+    → Knows new same marks
 knows_later old new text same marks steady is knows = rw is (record {
   each = λ index taken at. let mark = knows.each index taken at in (mark.0, λ now. mark.1 (steady now));
   end = λ n at now. knows.end n at (steady now);
@@ -34,7 +35,8 @@ knows_later old new text same marks steady is knows = rw is (record {
 pub some_before : (rest new : Stretch) (front : List ℕ) → Delivers front rest new → (new ≡ nothing → ⊥) → rest ≡ nothing → ⊥
 some_before rest new front d some gone =
     let none : [] ≡ front ++ new.bytes = ap (λ s. s.bytes) (sym gone) ∙ d.bytes in
-    some (stretch-ext new nothing (nil_from_length new.bytes (omega (arith, ap length none, length-append front new.bytes))) (d.end ∙ ap (λ s. s.ends_well) gone))
+    some (stretch-ext new nothing (nil_from_length new.bytes (omega (arith, ap length none, length-append front new.bytes)))
+    (d.end ∙ ap (λ s. s.ends_well) gone))
 
 -- behind the front and so many bytes, or behind these bytes of the text
 pub along_text : (content : Stretch) (origin taken : ℕ) → from_place (origin + taken) content ≡ from_place taken (from_place origin content)
@@ -46,7 +48,8 @@ along_text content origin taken = ap (λ bytes. stretch bytes content.ends_well)
 -- ---- a line that was read can be read again
 
 module _ (content rest : Stretch) (at origin taken : ℕ) (place : ℕ) (held : List ℕ) where
-  pub resumes_line : (stage : Stage) (after : Outcome) (front : List ℕ) → stage ≡ Lines false → origin + taken ≡ at → StandsIn content at rest → held ≡ [] →
+  pub resumes_line : (stage : Stage) (after : Outcome) (front : List ℕ) → stage ≡ Lines false → origin + taken ≡ at → StandsIn content at rest
+      → held ≡ [] →
       Advances (ahead stage rest) front after → 0 < length front → place ≤ length (content_of content origin).bytes →
       ((rest_ahead false held stage rest ≡ nothing → ⊥) → rest_ahead false held stage rest ≡ from_place place (content_of content origin)) →
       ((rest_ahead false held stage rest ≡ nothing → ⊥) →
@@ -55,12 +58,14 @@ module _ (content rest : Stretch) (at origin taken : ℕ) (place : ℕ) (held : 
       Resumes (from_place origin content) (Lines false) place taken
   unfolding rest_ahead outcome_ahead
   resumes_line stage after front lines behind stands none advances some within follows ends form =
-      let bytes_ahead : (ahead (Lines false) rest).bytes ≡ front ++ after.bytes = ap (λ o. o.bytes) (subst (λ s. ahead s rest ≡ outcome_after front after) lines advances.same) in
+      let bytes_ahead : (ahead (Lines false) rest).bytes ≡ front ++ after.bytes =
+      ap (λ o. o.bytes) (subst (λ s. ahead s rest ≡ outcome_after front after) lines advances.same) in
       let left : (stretch_of (ahead (Lines false) rest) ≡ nothing → ⊥) = λ gone.
       let no_bytes : [] ≡ front ++ after.bytes = ap (λ s. s.bytes) (sym gone) ∙ bytes_ahead in
       omega (arith, ap length no_bytes, length-append front after.bytes, some) in
       let here : rest ≡ from_place at content = stands_follows content rest at stands (λ gone. left (rw gone refl)) in
-      let same : from_place taken (from_place origin content) ≡ rest = sym (along_text content origin taken) ∙ ap (λ n. from_place n content) behind ∙ sym here in
+      let same : from_place taken (from_place origin content) ≡ rest =
+      sym (along_text content origin taken) ∙ ap (λ n. from_place n content) behind ∙ sym here in
       record {
         rest = ap (λ s. stretch_of (ahead (Lines false) s)) same ∙ (rw (lines, none) at follows) left;
         ending = ap (λ s. (ahead (Lines false) s).ending) same ∙ (rw (lines, none) at ends) left;
@@ -72,7 +77,8 @@ module _ (content rest : Stretch) (at origin taken : ℕ) (place : ℕ) (held : 
 -- ---- how far a reader comes
 
 -- what begins with bytes, or is a clean end, isn't nothing
-pub not_nothing : (rest : Stretch) (front more : List ℕ) (count : ℕ) → rest.bytes ≡ front ++ more → length front ≡ count → (count ≡ 0 → IsCleanEnd rest) → rest ≡ nothing → ⊥
+pub not_nothing : (rest : Stretch) (front more : List ℕ) (count : ℕ) → rest.bytes ≡ front ++ more → length front ≡ count
+    → (count ≡ 0 → IsCleanEnd rest) → rest ≡ nothing → ⊥
 not_nothing rest [] more count bytes size clean gone = true≢false (sym (clean (sym size)).ends_well ∙ ap (λ s. s.ends_well) gone)
 not_nothing rest (b ∷ front) more count bytes size clean gone =
     let none : [] ≡ b ∷ front ++ more = ap (λ s. s.bytes) (sym gone) ∙ bytes in
@@ -80,7 +86,8 @@ not_nothing rest (b ∷ front) more count bytes size clean gone =
 
 -- bytes that were read from a place stand in the content
 pub reaches_content : (content rest : Stretch) (place count : ℕ) (front more : List ℕ) → place ≤ length content.bytes →
-    ((rest ≡ nothing → ⊥) → rest ≡ from_place place content) → rest.bytes ≡ front ++ more → length front ≡ count → place + count ≤ length content.bytes
+    ((rest ≡ nothing → ⊥) → rest ≡ from_place place content) → rest.bytes ≡ front ++ more → length front ≡ count
+    → place + count ≤ length content.bytes
 reaches_content content rest place count [] more within follows bytes size = omega (arith, within, size)
 reaches_content content rest place count (b ∷ front) more within follows bytes size =
     let some = not_nothing rest (b ∷ front) more count bytes size (λ none. absurd (omega (arith, size, none))) in
@@ -88,16 +95,19 @@ reaches_content content rest place count (b ∷ front) more within follows bytes
     omega (arith, within, size, ap length here, length-append (b ∷ front) more, length-drop place content.bytes)
 
 -- after a short line none come
-pub none_after : (stage : Stage) (rest : Stretch) (front : List ℕ) (count : ℕ) (after : Outcome) → Advances (ahead stage rest) front after → length front ≡ count →
+pub none_after : (stage : Stage) (rest : Stretch) (front : List ℕ) (count : ℕ) (after : Outcome) → Advances (ahead stage rest) front after
+    → length front ≡ count →
     stage ≡ Lines true → count ≡ 0
 none_after stage rest front count after advances size short =
-    let bytes : (ahead (Lines true) rest).bytes ≡ front ++ after.bytes = ap (λ o. o.bytes) (subst (λ s. ahead s rest ≡ outcome_after front after) short advances.same) in
+    let bytes : (ahead (Lines true) rest).bytes ≡ front ++ after.bytes =
+    ap (λ o. o.bytes) (subst (λ s. ahead s rest ≡ outcome_after front after) short advances.same) in
     let none : [] ≡ front ++ after.bytes = sym (none_after_short (raw_lines rest.bytes) rest.ends_well) ∙ bytes in
     omega (arith, size, ap length none, length-append front after.bytes)
 
 -- full lines are behind full ones alone
 pub still_full : (stage next : Stage) (place count : ℕ) → is_ended stage ≡ false → (is_start stage ≡ false → has_lines next ≡ has_lines stage) →
-    (is_start stage ≡ true → place ≡ 0) → (stage ≡ Lines false → place % 48 ≡ 0) → (stage ≡ Lines true → count ≡ 0) → (next ≡ Lines false → count ≡ 48) →
+    (is_start stage ≡ true → place ≡ 0) → (stage ≡ Lines false → place % 48 ≡ 0) → (stage ≡ Lines true → count ≡ 0)
+    → (next ≡ Lines false → count ≡ 48) →
     next ≡ Lines false → (place + count) % 48 ≡ 0
 still_full Start next place count opens form first lines short full is = omega (arith, first refl, full is)
 still_full Binary next place count opens form first lines short full is = absurd (true≢false (sym (ap has_lines is) ∙ form refl))
@@ -106,7 +116,8 @@ still_full (Lines false) next place count opens form first lines short full is =
 still_full Ended next place count opens form first lines short full is = absurd (true≢false opens)
 
 -- in armor bytes come at the front, or after full lines
-pub after_full : (stage : Stage) (place count : ℕ) (text : List ℕ) → is_ended stage ≡ false → (is_start stage ≡ false → FindsForm (has_lines stage) text) →
+pub after_full : (stage : Stage) (place count : ℕ) (text : List ℕ) → is_ended stage ≡ false
+    → (is_start stage ≡ false → FindsForm (has_lines stage) text) →
     (is_start stage ≡ true → place ≡ 0) → (stage ≡ Lines false → place % 48 ≡ 0) → (stage ≡ Lines true → count ≡ 0) → count ≤ 48 →
     IsTrue (begins_armor text) → 0 < count → (place % 48 ≡ 0) × (count ≤ 48) × ((stage ≡ Lines false) ⊎ (place ≡ 0))
 after_full Start place count text opens form first lines short fits armored some = (omega (arith, first refl), fits, inr (first refl))
@@ -134,7 +145,8 @@ pub starts_at : (content rest : Stretch) (place : ℕ) (held : List ℕ) → hel
     (rest_ahead false held Start rest ≡ nothing → ⊥) → rest ≡ from_place place content
 unfolding rest_ahead
 starts_at content rest place held none stands some =
-    stands_follows content rest place stands (λ gone. some (rw none (ap (λ s. stretch_of (text_delivers s.bytes s.ends_well)) gone ∙ nothing_delivered)))
+    stands_follows content rest place stands
+    (λ gone. some (rw none (ap (λ s. stretch_of (text_delivers s.bytes s.ends_well)) gone ∙ nothing_delivered)))
 
 -- ---- a reader that is taken to a mark
 
@@ -145,8 +157,10 @@ unfolding rest_ahead
 resumed_rest content rest origin place taken stage held none resumes here =
     rw none (ap (λ s. stretch_of (ahead stage s)) (here ∙ along_text content origin taken) ∙ resumes.rest)
 
-pub resumed_ending : (content rest : Stretch) (origin place taken : ℕ) (stage : Stage) (held : List ℕ) → Resumes (from_place origin content) stage place taken →
-    rest ≡ from_place (origin + taken) content → (outcome_ahead held stage rest).ending ≡ (text_delivers (drop origin content.bytes) content.ends_well).ending
+pub resumed_ending : (content rest : Stretch) (origin place taken : ℕ) (stage : Stage) (held : List ℕ)
+    → Resumes (from_place origin content) stage place taken →
+    rest ≡ from_place (origin + taken) content
+    → (outcome_ahead held stage rest).ending ≡ (text_delivers (drop origin content.bytes) content.ends_well).ending
 unfolding outcome_ahead
 resumed_ending content rest origin place taken stage held resumes here =
     ap (λ s. (ahead stage s).ending) (here ∙ along_text content origin taken) ∙ resumes.ending
@@ -182,7 +196,10 @@ ends_clean false well = well
 pub length_binary : (text : Stretch) (n : ℕ) → FindsForm false text.bytes → n ≡ length text.bytes → IsTrue text.ends_well → IsLength text n
 length_binary text n form same well =
     let is = carried_binary text form in
-    record { well = subst (λ o. IsTrue (is_clean o.ending)) (sym is) (ends_clean text.ends_well well); same = same ∙ ap (λ o. length o.bytes) (sym is) }
+    record {
+      well = subst (λ o. IsTrue (is_clean o.ending)) (sym is) (ends_clean text.ends_well well);
+      same = same ∙ ap (λ o. length o.bytes) (sym is);
+    }
 
 -- a text that doesn't begin as armor does is binary once anything was read
 pub is_plain : (stage : Stage) → is_start stage ≡ false → has_lines stage ≡ false → (stage ≡ Binary → ⊥) → ⊥

@@ -67,7 +67,8 @@ module _ {W : Type 0} (appended : W → List ℕ → W → Type 0) where
 
   -- the same of the first n bytes
   pub sends-part : (s : ArmoredWriter W) (n : ℕ) (bytes : List ℕ) (c : W) → SendsLines appended s (take n bytes) c → SendsLines appended s bytes c
-  sends-part s n bytes c f = subst (λ (z : List ℕ). SendsLines appended s z c) (take-append-drop n bytes) (sends-more s (take n bytes) (drop n bytes) c f)
+  sends-part s n bytes c f = subst (λ (z : List ℕ). SendsLines appended s z c) (take-append-drop n bytes)
+      (sends-more s (take n bytes) (drop n bytes) c f)
 
   -- in either form, what is sent of some bytes is a beginning for more
   sends-longer : (f : Bool) (s : ArmoredWriter W) (x y : List ℕ) (c : W) → SendsFront appended f s x c → SendsFront appended f s (x ++ y) c
@@ -86,7 +87,8 @@ module _ {W : Type 0} (appended : W → List ℕ → W → Type 0) where
     pub sends-rest : (a b : ArmoredWriter W) (c : W) (n : ℕ) (bytes : List ℕ) → Took appended a (take n bytes) b →
         SendsLines appended b (drop n bytes) c → SendsLines appended a bytes c
     sends-rest a b c n bytes first second =
-        subst (λ (z : List ℕ). SendsLines appended a z c) (take-append-drop n bytes) (sends-on appended joins a b c (take n bytes) (drop n bytes) first second)
+        subst (λ (z : List ℕ). SendsLines appended a z c) (take-append-drop n bytes)
+        (sends-on appended joins a b c (take n bytes) (drop n bytes) first second)
 
     -- from before the begin marker on
     armor-begun : (start : ArmoredWriter W) (bytes : List ℕ) (first after : W) → start.held.items ≡ [] →
@@ -106,7 +108,8 @@ module _ {W : Type 0} (appended : W → List ℕ → W → Type 0) where
     text-front start Binary bytes first after made sends = subst (λ w. AppendsFront appended bytes w after) made.begins sends
 
     -- up to a refusal, and with it
-    pub sends-text : (start before : ArmoredWriter W) (format : Format) (taken bytes : List ℕ) (first after : W) → WasMade appended format first start →
+    pub sends-text : (start before : ArmoredWriter W) (format : Format) (taken bytes : List ℕ) (first after : W)
+        → WasMade appended format first start →
         Appended appended start taken before → before.failed ≡ false → SendsFront appended before.armored before bytes after →
         AppendsFront appended (text_of format (taken ++ bytes)) first after
     sends-text start before format taken bytes first after made (inl stayed) good sends = absurd (true≢false (sym stayed.0 ∙ made.good))

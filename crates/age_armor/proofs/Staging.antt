@@ -51,13 +51,15 @@ few_text : (text : List ℕ) (w : Bool) → length text < 36 → text_delivers t
 unfolding text_delivers
 few_text text w few = rw (lt-ltb (length text) 36 few) refl
 
-pub few_clean : (count : ℕ) (old : Stretch) → count ≤ 36 → IsFew count true old → text_delivers old.bytes old.ends_well ≡ ends_in (Refused UnexpectedEof)
+pub few_clean : (count : ℕ) (old : Stretch) → count ≤ 36 → IsFew count true old
+    → text_delivers old.bytes old.ends_well ≡ ends_in (Refused UnexpectedEof)
 few_clean count old fits few =
     few_text old.bytes old.ends_well (omega (arith, few.few)) ∙ ap (λ w. ends_in (at_end w (Refused UnexpectedEof))) few.end
 
 pub few_fault : (count : ℕ) (old : Stretch) (e : Error) → count ≤ 36 → IsFew count false old → StopsWith (text_delivers old.bytes old.ends_well) e
 few_fault count old e fits few =
-    stops_of _ _ InnerFault (few_text old.bytes old.ends_well (omega (arith, few.few)) ∙ ap (λ w. ends_in (at_end w (Refused UnexpectedEof))) few.end) tt
+    stops_of _ _ InnerFault (few_text old.bytes old.ends_well (omega (arith, few.few))
+    ∙ ap (λ w. ends_in (at_end w (Refused UnexpectedEof))) few.end) tt
 
 pub few_end : (front : List ℕ) (old mid : Stretch) → length front ≡ 35 → Delivers front old mid → IsCleanEnd mid → IsFew 36 true old
 few_end front old mid size d clean =
@@ -69,10 +71,12 @@ few_bad front old mid size d fault =
     let whole = ap length (d.bytes ∙ ap (λ x. front ++ x) fault.bytes ∙ append-nil front) in
     record { few = omega (arith, whole, size); end = sym d.end ∙ fault.ends_badly }
 
-long_text : (front : List ℕ) (old mid : Stretch) → length front ≡ 35 → Delivers front old mid → 0 < length mid.bytes → nat_lt (length old.bytes) 36 ≡ false
+long_text : (front : List ℕ) (old mid : Stretch) → length front ≡ 35 → Delivers front old mid → 0 < length mid.bytes
+    → nat_lt (length old.bytes) 36 ≡ false
 long_text front old mid size d some = le-ltb (length old.bytes) 36 (omega (arith, size, some, ap length d.bytes ∙ length-append front mid.bytes))
 
-begins_same : (front : List ℕ) (old mid : Stretch) → length front ≡ 35 → Delivers front old mid → starts_with nat_eq old.bytes begin_marker ≡ starts_with nat_eq front begin_marker
+begins_same : (front : List ℕ) (old mid : Stretch) → length front ≡ 35 → Delivers front old mid
+    → starts_with nat_eq old.bytes begin_marker ≡ starts_with nat_eq front begin_marker
 begins_same front old mid size d =
     let same : take 34 old.bytes ≡ take 34 front = ap (take 34) d.bytes ∙ take-append-le 34 front mid.bytes (omega (arith, size)) in
     rw same refl
@@ -85,13 +89,15 @@ finds_form front old mid armored size d some is = record {
   same = sym (begins_same front old mid size d ∙ is);
 }
 
-outcome-same : (x y : List ℕ) (v w : Bool) → x ≡ y → v ≡ w → Path Outcome (record { bytes = x; ending = at_end v Clean }) (record { bytes = y; ending = at_end w Clean })
+outcome-same : (x y : List ℕ) (v w : Bool) → x ≡ y → v ≡ w
+    → Path Outcome (record { bytes = x; ending = at_end v Clean }) (record { bytes = y; ending = at_end w Clean })
 outcome-same x y v w p q =
     let make : List ℕ → Bool → Outcome = λ bytes e. record { bytes = bytes; ending = at_end e Clean } in
     ap (λ z. make z v) p ∙ ap (λ z. make y z) q
 
 pub detects_binary : (front : List ℕ) (old mid : Stretch) → length front ≡ 35 → Delivers front old mid → 0 < length mid.bytes →
-    starts_with nat_eq front begin_marker ≡ false → Advances (text_delivers old.bytes old.ends_well) front (record { bytes = mid.bytes; ending = at_end mid.ends_well Clean })
+    starts_with nat_eq front begin_marker ≡ false
+    → Advances (text_delivers old.bytes old.ends_well) front (record { bytes = mid.bytes; ending = at_end mid.ends_well Clean })
 unfolding text_delivers
 detects_binary front old mid size d some other = record {
   same = rw (long_text front old mid size d some, begins_same front old mid size d, other) (outcome-same _ _ _ _ d.bytes (sym d.end));
@@ -105,7 +111,8 @@ last_one (suc n) [] e = absurd (omega arith)
 last_one (suc n) (x ∷ xs) e = last_one n xs (omega arith)
 
 detects_marker : (front : List ℕ) (old mid : Stretch) → length front ≡ 35 → Delivers front old mid → 0 < length mid.bytes →
-    starts_with nat_eq front begin_marker ≡ true → text_delivers old.bytes old.ends_well ≡ after_marker (slice_index front 34 ∷ mid.bytes) mid.ends_well
+    starts_with nat_eq front begin_marker ≡ true
+    → text_delivers old.bytes old.ends_well ≡ after_marker (slice_index front 34 ∷ mid.bytes) mid.ends_well
 unfolding text_delivers
 detects_marker front old mid size d some begins =
     let after : drop 34 old.bytes ≡ slice_index front 34 ∷ mid.bytes =
@@ -113,11 +120,13 @@ detects_marker front old mid size d some begins =
     rw (long_text front old mid size d some, begins_same front old mid size d, begins, after, d.end) refl
 
 pub detects_lf : (front : List ℕ) (old mid : Stretch) → length front ≡ 35 → Delivers front old mid → 0 < length mid.bytes →
-    starts_with nat_eq front begin_marker ≡ true → slice_index front 34 ≡ 10 → text_delivers old.bytes old.ends_well ≡ section false (raw_lines mid.bytes) mid.ends_well
+    starts_with nat_eq front begin_marker ≡ true → slice_index front 34 ≡ 10
+    → text_delivers old.bytes old.ends_well ≡ section false (raw_lines mid.bytes) mid.ends_well
 detects_lf front old mid size d some begins lf = detects_marker front old mid size d some begins ∙ rw lf refl
 
 pub detects_crlf : (front : List ℕ) (old mid new : Stretch) → length front ≡ 35 → Delivers front old mid → 0 < length mid.bytes →
-    starts_with nat_eq front begin_marker ≡ true → slice_index front 34 ≡ 13 → Delivers (10 ∷ []) mid new → text_delivers old.bytes old.ends_well ≡ section false (raw_lines new.bytes) new.ends_well
+    starts_with nat_eq front begin_marker ≡ true → slice_index front 34 ≡ 13 → Delivers (10 ∷ []) mid new
+    → text_delivers old.bytes old.ends_well ≡ section false (raw_lines new.bytes) new.ends_well
 detects_crlf front old mid new size d some begins cr next = detects_marker front old mid size d some begins ∙ rw (cr, next.bytes, next.end) refl
 
 begins_other : (x y : ℕ) (xs ys : List ℕ) → x ≢ y → starts_with nat_eq (x ∷ xs) (y ∷ ys) ≡ false
@@ -127,13 +136,15 @@ begins_other_next : (x b y : ℕ) (xs : List ℕ) → b ≢ y → starts_with na
 begins_other_next x b y xs other = false_from_ne_true _ (λ e. let same : b ≡ y = cc (begins_back (13 ∷ y ∷ []) (x ∷ b ∷ xs) e) in other same)
 
 pub detects_bad : (front : List ℕ) (old mid : Stretch) → length front ≡ 35 → Delivers front old mid → 0 < length mid.bytes →
-    starts_with nat_eq front begin_marker ≡ true → slice_index front 34 ≢ 10 → slice_index front 34 ≢ 13 → text_delivers old.bytes old.ends_well ≡ ends_in (Refused (Armor InvalidBeginMarker))
+    starts_with nat_eq front begin_marker ≡ true → slice_index front 34 ≢ 10 → slice_index front 34 ≢ 13
+    → text_delivers old.bytes old.ends_well ≡ ends_in (Refused (Armor InvalidBeginMarker))
 detects_bad front old mid size d some begins no_lf no_cr =
     detects_marker front old mid size d some begins
     ∙ rw (begins_other (slice_index front 34) 10 mid.bytes [] no_lf, begins_other (slice_index front 34) 13 mid.bytes (10 ∷ []) no_cr) refl
 
 pub detects_bad_next : (front : List ℕ) (old mid new : Stretch) (b : ℕ) → length front ≡ 35 → Delivers front old mid → 0 < length mid.bytes →
-    starts_with nat_eq front begin_marker ≡ true → slice_index front 34 ≢ 10 → Delivers (b ∷ []) mid new → b ≢ 10 → text_delivers old.bytes old.ends_well ≡ ends_in (Refused (Armor InvalidBeginMarker))
+    starts_with nat_eq front begin_marker ≡ true → slice_index front 34 ≢ 10 → Delivers (b ∷ []) mid new → b ≢ 10
+    → text_delivers old.bytes old.ends_well ≡ ends_in (Refused (Armor InvalidBeginMarker))
 detects_bad_next front old mid new b size d some begins no_lf next other =
     detects_marker front old mid size d some begins
     ∙ rw (begins_other (slice_index front 34) 10 mid.bytes [] no_lf, next.bytes, begins_other_next (slice_index front 34) b 10 new.bytes other) refl
@@ -147,7 +158,8 @@ pub line_step : (s : Bool) (raw : List ℕ) (old mid : Stretch) → TakesLine ra
     ≡ after_line (verdict s raw) (section (is_short (line_columns raw)) (raw_lines mid.bytes) mid.ends_well) (trailing mid.bytes mid.ends_well)
 line_step s raw old mid t some = rw (t.first some, t.whole some, ← t.end, concat_raw mid.bytes) refl
 
-pub line_ends : (s : Bool) (raw : List ℕ) (old mid : Stretch) → TakesLine raw old mid → 0 < length raw → verdict s raw ≡ Ends → trailing mid.bytes mid.ends_well ≡ Clean →
+pub line_ends : (s : Bool) (raw : List ℕ) (old mid : Stretch) → TakesLine raw old mid → 0 < length raw → verdict s raw ≡ Ends
+    → trailing mid.bytes mid.ends_well ≡ Clean →
     section s (raw_lines old.bytes) old.ends_well ≡ ends_in Clean
 line_ends s raw old mid t some v clean = line_step s raw old mid t some ∙ rw (v, clean) refl
 
@@ -155,7 +167,8 @@ pub line_trails : (s : Bool) (raw : List ℕ) (old mid : Stretch) → TakesLine 
     section s (raw_lines old.bytes) old.ends_well ≡ ends_in (trailing mid.bytes mid.ends_well)
 line_trails s raw old mid t some v = line_step s raw old mid t some ∙ rw v refl
 
-pub line_refuses : (s : Bool) (raw : List ℕ) (old mid : Stretch) (f : ArmoredReadError) → TakesLine raw old mid → 0 < length raw → verdict s raw ≡ Refuses f →
+pub line_refuses : (s : Bool) (raw : List ℕ) (old mid : Stretch) (f : ArmoredReadError) → TakesLine raw old mid → 0 < length raw
+    → verdict s raw ≡ Refuses f →
     section s (raw_lines old.bytes) old.ends_well ≡ ends_in (Refused (Armor f))
 line_refuses s raw old mid f t some v = line_step s raw old mid t some ∙ rw v refl
 
@@ -181,7 +194,8 @@ full_step bytes old new t =
     let same : old.bytes ≡ columns ++ 10 ∷ new.bytes = t.delivered.bytes ∙ append_assoc columns (10 ∷ []) new.bytes in
     let rows : raw_lines old.bytes ≡ (columns ++ 10 ∷ []) ∷ raw_lines new.bytes = ap raw_lines same ∙ raw_lines_ended columns new.bytes feeds in
     let size = t.size in
-    let holds : verdict false (columns ++ 10 ∷ []) ≡ Holds bytes = (good_line bytes (columns ++ 10 ∷ []) t.each (omega (arith, size)) (omega (arith, size)) (inl refl)).0 in
+    let holds : verdict false (columns ++ 10 ∷ []) ≡ Holds bytes =
+    (good_line bytes (columns ++ 10 ∷ []) t.each (omega (arith, size)) (omega (arith, size)) (inl refl)).0 in
     let short : is_short (line_columns (columns ++ 10 ∷ [])) ≡ false = ap is_short (columns_lf columns returns) ∙ full_not_short bytes t.each size in
     let ended : (old.ends_well || last_is 10 (columns ++ 10 ∷ [])) ≡ true = or_right _ _ (last_is_end columns 10 10) in
     record { same = rw (rows, ended, holds, short, t.delivered.end) refl }
@@ -192,7 +206,8 @@ one_of (x ∷ []) e = refl
 one_of (x ∷ y ∷ xs) e = absurd (omega (arith, e))
 
 -- no line is left before the clean end
-pub empty_line : (s : Bool) (raw : List ℕ) (old new : Stretch) → TakesLine raw old new → length raw ≡ 0 → section s (raw_lines old.bytes) old.ends_well ≡ ends_in (Refused (Armor NotWrappedAt64Chars))
+pub empty_line : (s : Bool) (raw : List ℕ) (old new : Stretch) → TakesLine raw old new → length raw ≡ 0
+    → section s (raw_lines old.bytes) old.ends_well ≡ ends_in (Refused (Armor NotWrappedAt64Chars))
 empty_line s raw old new t none =
     let clean = t.empty none in
     rw (clean.bytes, clean.ends_well) refl
@@ -214,7 +229,8 @@ held_small s raw b v =
     let h = subst (IsLineVerdict s raw) v (one_verdict s raw) in
     omega (arith, ap length h.4, length-padded_columns b, length_line_columns raw)
 
-pub holds_count : (s : Bool) (raw bytes : List ℕ) (n : ℕ) → verdict s raw ≡ Holds (take n bytes) → length bytes ≡ 48 → n ≤ 48 → (0 < n) × (n ≤ length raw)
+pub holds_count : (s : Bool) (raw bytes : List ℕ) (n : ℕ) → verdict s raw ≡ Holds (take n bytes) → length bytes ≡ 48 → n ≤ 48
+    → (0 < n) × (n ≤ length raw)
 holds_count s raw bytes n v size fits =
     let some = holds_some s raw (take n bytes) v in
     let small = held_small s raw (take n bytes) v in
@@ -222,7 +238,8 @@ holds_count s raw bytes n v size fits =
     (omega (arith, some, all), omega (arith, small, all))
 
 -- a line that isn't short stands for 48 bytes
-pub held_full : (s : Bool) (raw bytes : List ℕ) (n : ℕ) → verdict s raw ≡ Holds (take n bytes) → length bytes ≡ 48 → n ≤ 48 → is_short (line_columns raw) ≡ false → n ≡ 48
+pub held_full : (s : Bool) (raw bytes : List ℕ) (n : ℕ) → verdict s raw ≡ Holds (take n bytes) → length bytes ≡ 48 → n ≤ 48
+    → is_short (line_columns raw) ≡ false → n ≡ 48
 held_full s raw bytes n v size fits full =
     let is : IsLineVerdict s raw (Holds (take n bytes)) = subst (IsLineVerdict s raw) v (one_verdict s raw) in
     let most : length (padded_columns (take n bytes)) ≤ 64 = omega (arith, is.2, ap length is.4) in
@@ -251,26 +268,30 @@ module _ {R : Type 0} {buf : buffered.Ghosts R} {read : Ghosts R} where
   piece-none stage old e = record { fits = tt; full = tt; ended = tt; begun = tt; end = λ told. tt }
 
   pub gives-none : (stage : Stage) (old new : Counted R buf read) (found : List ℕ) (e : Error) →
-      (IsTrue (read.tells old.inner) → e ≢ OutOfMemory → IsQuiet (read.faults old.inner) (read.faults new.inner) → StopsWith (ahead stage (read.rest old.inner)) e) →
+      (IsTrue (read.tells old.inner) → e ≢ OutOfMemory → IsQuiet (read.faults old.inner) (read.faults new.inner)
+      → StopsWith (ahead stage (read.rest old.inner)) e) →
       (IsTrue (read.tells old.inner) → OrEnd read old.inner (ahead stage (read.rest old.inner)) e) → GivesPiece stage old new found (Err e)
   gives-none stage old new found e cause why = record { taken = λ told. tt; bytes = λ told. tt; cause = cause; why = why }
 
   -- one of the reader that gives the text
   pub gives-asked : (stage : Stage) (old new : Counted R buf read) (found : List ℕ) (e : Error) →
-      (IsTrue (read.tells old.inner) → e ≢ OutOfMemory → IsQuiet (read.faults old.inner) (read.faults new.inner) → StopsWith (ahead stage (read.rest old.inner)) e) →
+      (IsTrue (read.tells old.inner) → e ≢ OutOfMemory → IsQuiet (read.faults old.inner) (read.faults new.inner)
+      → StopsWith (ahead stage (read.rest old.inner)) e) →
       (e ≢ OutOfMemory → TriedAgain read.refuses old.inner e) → GivesPiece stage old new found (Err e)
   gives-asked stage old new found e cause why = gives-none stage old new found e cause (λ told. end-asked read old.inner _ e why)
 
   -- the text's own
   pub gives-end : (stage : Stage) (old new : Counted R buf read) (found : List ℕ) (e : Error) →
       (IsTrue (read.tells old.inner) → ahead stage (read.rest old.inner) ≡ ends_in (Refused e)) → GivesPiece stage old new found (Err e)
-  gives-end stage old new found e same = gives-none stage old new found e (λ told other quiet. stops_end _ e (same told)) (λ told. inr (inl (same told)))
+  gives-end stage old new found e same = gives-none stage old new found e (λ told other quiet. stops_end _ e (same told))
+      (λ told. inr (inl (same told)))
 
   -- ---- a step that gave nothing, and then a call
 
   pub piece-later : (stage next : Stage) (old middle : Counted R buf read) (result : Result Piece Error) →
       (IsTrue (read.tells old.inner) → IsTrue (read.tells middle.inner)) →
-      (IsTrue (read.tells old.inner) → ahead stage (read.rest old.inner) ≡ ahead next (read.rest middle.inner)) → IsPiece next middle result → IsPiece stage old result
+      (IsTrue (read.tells old.inner) → ahead stage (read.rest old.inner) ≡ ahead next (read.rest middle.inner)) → IsPiece next middle result
+      → IsPiece stage old result
   piece-later stage next old middle result tells same is = record {
     fits = is.fits;
     full = is.full;
@@ -281,13 +302,15 @@ module _ {R : Type 0} {buf : buffered.Ghosts R} {read : Ghosts R} where
 
   pub gives-later : (stage next : Stage) (old middle new : Counted R buf read) (found : List ℕ) (result : Result Piece Error) →
       (IsTrue (read.tells old.inner) → IsTrue (read.tells middle.inner)) →
-      read.faults old.inner ≤ read.faults middle.inner → read.faults middle.inner ≤ read.faults new.inner → (IsTrue (read.tells old.inner) → old.taken ≤ middle.taken) →
+      read.faults old.inner ≤ read.faults middle.inner → read.faults middle.inner ≤ read.faults new.inner
+      → (IsTrue (read.tells old.inner) → old.taken ≤ middle.taken) →
       (IsTrue (read.tells old.inner) → ahead stage (read.rest old.inner) ≡ ahead next (read.rest middle.inner)) →
       AddsNoReason (TriedAgain read.refuses) old.inner middle.inner → GivesPiece next middle new found result → GivesPiece stage old new found result
   gives-later stage next old middle new found result tells first last more same narrows gives = record {
     taken = λ told. IfOk-weaker result _ _ (λ piece h. omega (arith, more told, h)) (gives.taken (tells told));
     bytes = λ told. IfOk-weaker result _ _ (λ piece is. record { same = same told ∙ is.same }) (gives.bytes (tells told));
     cause = λ told. IfErr-weaker result _ _
-        (λ e stops other quiet. subst (λ o. StopsWith o e) (sym (same told)) (stops other (quiet_after _ _ _ first last quiet))) (gives.cause (tells told));
+        (λ e stops other quiet. subst (λ o. StopsWith o e) (sym (same told)) (stops other (quiet_after _ _ _ first last quiet)))
+        (gives.cause (tells told));
     why = λ told. IfErr-weaker result _ _ (λ e why. end-later read old.inner middle.inner _ _ e narrows (same told) why) (gives.why (tells told));
   }

@@ -47,7 +47,8 @@ taken_end line old mid new lacks d clean same =
       end = ap (λ s. s.ends_well) same ∙ d.end;
     }
 
-pub taken_line : (line all : List ℕ) (old mid new : Stretch) → Lacks 10 line → Delivers line old mid → Delivers (10 ∷ []) mid new → all ≡ line ++ 10 ∷ [] → TakesLine all old new
+pub taken_line : (line all : List ℕ) (old mid new : Stretch) → Lacks 10 line → Delivers line old mid → Delivers (10 ∷ []) mid new
+    → all ≡ line ++ 10 ∷ [] → TakesLine all old new
 taken_line line all old mid new lacks d next same =
     let bytes : old.bytes ≡ line ++ 10 ∷ new.bytes = d.bytes ∙ ap (λ x. line ++ x) next.bytes in
     record {
@@ -76,7 +77,8 @@ some_other (b ∷ front) rest w h = elim (cases_Bool (is_space b)) [
 pub spaces_taken : (front : List ℕ) (old mid new : Stretch) → list_all is_space front ≡ true → Delivers front mid new →
     trailing mid.bytes mid.ends_well ≡ trailing old.bytes old.ends_well → trailing new.bytes new.ends_well ≡ trailing old.bytes old.ends_well
 spaces_taken front old mid new all d same =
-    sym (all_spaces front new.bytes new.ends_well all) ∙ ap (λ x. trailing x new.ends_well) (sym d.bytes) ∙ ap (λ w. trailing mid.bytes w) d.end ∙ same
+    sym (all_spaces front new.bytes new.ends_well all) ∙ ap (λ x. trailing x new.ends_well) (sym d.bytes) ∙ ap (λ w. trailing mid.bytes w) d.end
+    ∙ same
 
 pub garbage_taken : (front : List ℕ) (old mid new : Stretch) → list_all is_space front ≡ false → Delivers front mid new →
     trailing mid.bytes mid.ends_well ≡ trailing old.bytes old.ends_well → trailing old.bytes old.ends_well ≡ Refused (Armor TrailingGarbage)
@@ -84,7 +86,8 @@ garbage_taken front old mid new other d same =
     sym same ∙ ap (λ x. trailing x mid.ends_well) d.bytes ∙ some_other front new.bytes mid.ends_well other
 
 -- the end of the text comes after a part of a line
-pub taken_none : (line all : List ℕ) (old mid new : Stretch) → Lacks 10 line → Delivers line old mid → (all ≡ line) × (new ≡ mid) × IsCleanEnd mid → TakesLine all old new
+pub taken_none : (line all : List ℕ) (old mid new : Stretch) → Lacks 10 line → Delivers line old mid → (all ≡ line) × (new ≡ mid) × IsCleanEnd mid
+    → TakesLine all old new
 taken_none line all old mid new lacks d t = rw t.0 (taken_end line old mid new lacks d t.2 t.1)
 
 -- the rest of a line and its LF come after a part of it

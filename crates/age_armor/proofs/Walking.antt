@@ -15,7 +15,8 @@ further content rest new place next n front stands d size moved =
 -- after no bytes a clean end is still one
 pub still_clean : (rest new : Stretch) (front : List ℕ) → IsCleanEnd rest → Delivers front rest new → length front ≡ 0 → IsCleanEnd new
 still_clean rest new front clean d none = record {
-  bytes = empty_nil new.bytes (let total : length (front ++ new.bytes) ≡ 0 = ap length (sym d.bytes ∙ clean.bytes) in omega (arith, length-append front new.bytes, total));
+  bytes = empty_nil new.bytes (let total : length (front ++ new.bytes) ≡ 0 = ap length (sym d.bytes ∙ clean.bytes) in
+      omega (arith, length-append front new.bytes, total));
   ends_well = subst IsTrue (sym d.end) clean.ends_well;
 }
 

@@ -27,7 +27,8 @@ pub record Kept {R A : Type 0} (read : Ghosts R) (old : R) (old_taken : ℕ) (ne
   pub more : IsTrue (read.tells old) → old_taken ≤ new_taken
 
 -- nothing was taken, neither of bytes nor of lines
-pub record TakesNone {R A : Type 0} {buf : buffered.Ghosts R} {read : Ghosts R} (old new : Counted R buf read) (result : Result A Error) : Type 0 where
+pub record TakesNone {R A : Type 0} {buf : buffered.Ghosts R} {read : Ghosts R} (old new : Counted R buf read)
+    (result : Result A Error) : Type 0 where
   pub taken : new.taken ≡ old.taken
   pub lines : new.lines ≡ old.lines
   pub same : IsTrue (read.tells old.inner) → OnOk result (read.rest new.inner ≡ read.rest old.inner)

@@ -33,11 +33,13 @@ module _ {R : Type 0} {buf : buffered.Ghosts R} {read : Ghosts R} where
   -- what it has before it is what the text carries from its place on, and comes to the text's end
   pub record IsHere (source : Counted R buf read) (preceding : ℕ) (stage : Stage) (held : List ℕ) (place : ℕ) (failed : Bool) : Type 0 where
     pub rest : rest_ahead failed held stage (read.rest source.inner) ≡ from_place place (carried_in source preceding)
-    pub ending : (outcome_ahead held stage (read.rest source.inner)).ending ≡ (text_outcome (read.content source.inner) (origin_in source preceding)).ending
+    pub ending : (outcome_ahead held stage (read.rest source.inner)).ending
+        ≡ (text_outcome (read.content source.inner) (origin_in source preceding)).ending
 
   -- Where it stands in a text that it reads from a steady reader: at its place, if it hasn't failed and has begun, or if anything is left.
   -- Once it has begun it knows the form of the text. One that went back to the front after bytes were read has seen armor.
-  pub record IsInText (source : Counted R buf read) (preceding : ℕ) (stage : Stage) (held : List ℕ) (place : ℕ) (failed : Bool) (marks : Marks) : Type 0 where
+  pub record IsInText (source : Counted R buf read) (preceding : ℕ) (stage : Stage) (held : List ℕ) (place : ℕ) (failed : Bool)
+      (marks : Marks) : Type 0 where
     pub behind : preceding ≤ source.taken
     pub inside : place ≤ length (carried_in source preceding).bytes
     pub here : failed ≡ false → is_start stage ≡ false → IsHere source preceding stage held place failed
@@ -47,7 +49,8 @@ module _ {R : Type 0} {buf : buffered.Ghosts R} {read : Ghosts R} where
 
   -- What a reader of armor always is: it has failed, or it has taken from the reader below what it gave and holds, and a line at a time.
   -- Whether or not it has failed, what it knows of the text is right, and its place stands in what the text carries.
-  pub record IsSound (source : Counted R buf read) (preceding : ℕ) (stage : Stage) (held : List ℕ) (place : ℕ) (failed : Bool) (marks : Marks) : Type 0 where
+  pub record IsSound (source : Counted R buf read) (preceding : ℕ) (stage : Stage) (held : List ℕ) (place : ℕ) (failed : Bool)
+      (marks : Marks) : Type 0 where
     -- of one that hasn't failed
     pub fresh : failed ≡ false → is_start stage ≡ true → held ≡ []
     pub untaken : failed ≡ false → is_start stage ≡ true → source.taken ≡ preceding

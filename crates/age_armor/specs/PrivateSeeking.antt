@@ -4,7 +4,8 @@ use Rattle.age_io.specs.Stretch.{from_place, nothing}
 use Rattle.age_io.specs.Reading.{IsQuiet, most_faults}
 use Rattle.age_io.specs.declared.traits.Read.{Ghosts}
 use Rattle.age_io.specs.Keeping.{KeepsReader, OrSeek, SameReader}
-use Rattle.age_io.specs.Cursor.{IsOutside, Seeks}
+use Rattle.age_io.specs.Cursor.{IsOutside}
+use Rattle.age_io.specs.Calls.{SeeksBy}
 use Rattle.age_error.specs.Refusals.{IsDevice, IsInterruption}
 use Rattle.age_error.specs.declared.io.Error.{Error}
 use Rattle.age_error.specs.declared.io.Error.TheVariants.{BeforeStart, Failed, OutOfMemory}
@@ -21,7 +22,7 @@ pub record Goes {R A : Type 0} (read : Ghosts R) (may : R → Error → Type 0) 
 -- What a seek in a text does. The bool says whether the reader that gives the text ends well, the ending how the text does.
 pub record SeeksText {R : Type 0} (read : Ghosts R) (failed : R → Bool) (seek_refuses : Error → Type 0) (old new : R) (to : SeekFrom)
     (ends_well : Bool) (ending : Ending) (result : Result ℕ Error) : Type 0 where
-  pub seeks : Seeks read.tells read.steady read.content read.place read.rest read.faults read.refuses seek_refuses old new to result
+  pub seeks : SeeksBy read seek_refuses old new to result
   pub patient : IfErr result (λ e. IsInterruption e → ⊥)
   pub good : OnOk result (failed new ≡ false)
   pub unmoved : IfErr result (λ e. IsOutside e → failed new ≡ failed old)
@@ -47,6 +48,7 @@ pub record ComesBack {R : Type 0} (read : Ghosts R) (failed : R → Bool) (seek_
   pub narrows : IsOutside answer → (e : Error) → read.refuses new e → ((had_failed ≡ true) × (e ≡ Failed)) ⊎ read.refuses old e
   -- of a reader that tells its bytes
   pub stays : IsTrue (read.tells old) → read.place new ≡ stood
-  pub back : IsTrue (read.tells old) → IsTrue (read.steady old) → had_failed ≡ false → IsOutside answer → read.rest new ≡ from_place stood (read.content old)
+  pub back : IsTrue (read.tells old) → IsTrue (read.steady old) → had_failed ≡ false → IsOutside answer
+      → read.rest new ≡ from_place stood (read.content old)
   pub cause : IsTrue (read.tells old) → IsTrue (read.content old).ends_well → IsOutside error → answer ≢ OutOfMemory →
       IsQuiet (read.faults old) (read.faults new) → IsOutside answer

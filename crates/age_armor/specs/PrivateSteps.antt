@@ -107,12 +107,14 @@ module _ {R : Type 0} {buf : buffered.Ghosts R} {read : readers.Ghosts R} where
     pub rest : WhereTold old (armored_rest old ≡ from_place (place_of old) (armored_content old) →
         OnOk result (armored_rest new ≡ from_place (place_of new) (armored_content old)))
     pub short : WhereSteady old (armored_rest old ≡ from_place (place_of old) (armored_content old) → IfErr result (λ e. e ≢ OutOfMemory →
-        IsQuiet (read.faults (inner_of old)) (read.faults (inner_of new)) → ((armored_content old).ends_well ≡ false) × (length (armored_content old).bytes < target)))
+        IsQuiet (read.faults (inner_of old)) (read.faults (inner_of new))
+        → ((armored_content old).ends_well ≡ false) × (length (armored_content old).bytes < target)))
 
   -- each line but the last that it takes stands for 48 bytes on the way
   abbrev pub CountsLines : ArmoredReader R buf read → ArmoredReader R buf read → ℕ → Result Bool Error → Type 0
   CountsLines old new target result = WhereSteady old (armored_rest old ≡ from_place (place_of old) (armored_content old) →
-      target ≤ length (armored_content old).bytes → IfOk result (λ there. IsTrue there → 48 * lines_of new + place_of old < 48 * lines_of old + target + 48))
+      target ≤ length (armored_content old).bytes
+      → IfOk result (λ there. IsTrue there → 48 * lines_of new + place_of old < 48 * lines_of old + target + 48))
 
   -- it stands in what the text carries, which is what it was, and hasn't failed
   pub record Came (old new : ArmoredReader R buf read) : Type 0 where
@@ -171,10 +173,12 @@ module _ {R : Type 0} {buf : buffered.Ghosts R} {read : readers.Ghosts R} where
   -- Where each mark had memory, few lines are taken to where the text was read before. Once the end is known, nothing changes for a
   -- target outside of it.
   pub record SparesReading (old new : ArmoredReader R buf read) (to : SeekFrom) (result : Result ℕ Error) : Type 0 where
-    pub lines : WhereSteady old (IsTrue (notes_all old) → IsNear to (place_of old) (furthest_of old) (knows_end old) → OnOk result (lines_of new ≤ lines_of old + 1024))
+    pub lines : WhereSteady old (IsTrue (notes_all old) → IsNear to (place_of old) (furthest_of old) (knows_end old)
+        → OnOk result (lines_of new ≤ lines_of old + 1024))
     pub outside : WhereSteady old (IsTrue (knows_end old) → IfErr result (λ e. IsOutside e → new ≡ old))
 
   -- the same of a whole seek, which goes back to its place after such a refusal, and takes no line for that
   pub record TakesFew (old new : ArmoredReader R buf read) (to : SeekFrom) (result : Result ℕ Error) : Type 0 where
-    pub lines : WhereSteady old (IsTrue (notes_all old) → IsNear to (place_of old) (furthest_of old) (knows_end old) → OnOk result (lines_of new ≤ lines_of old + 1024))
+    pub lines : WhereSteady old (IsTrue (notes_all old) → IsNear to (place_of old) (furthest_of old) (knows_end old)
+        → OnOk result (lines_of new ≤ lines_of old + 1024))
     pub outside : WhereSteady old (IsTrue (knows_end old) → IfErr result (λ e. IsOutside e → lines_of new ≤ lines_of old))

@@ -20,7 +20,8 @@ dirty_trailing : (text : List ℕ) → is_clean (trailing text false) ≡ false
 dirty_trailing [] = refl
 dirty_trailing (b ∷ text) = elim (cases_Bool (is_space b)) [ inl e ↦ rw e (dirty_trailing text) | inr e ↦ rw e refl ]
 
-dirty_line : (v : LineVerdict) (next : Outcome) (end : Ending) → is_clean next.ending ≡ false → is_clean end ≡ false → is_clean (after_line v next end).ending ≡ false
+dirty_line : (v : LineVerdict) (next : Outcome) (end : Ending) → is_clean next.ending ≡ false → is_clean end ≡ false
+    → is_clean (after_line v next end).ending ≡ false
 dirty_line (Refuses e) next end h k = refl
 dirty_line Ends next end h k = k
 dirty_line (Holds b) next end h k = h
@@ -33,7 +34,8 @@ dirty_section : (ls : List (List ℕ)) (s : Bool) → is_clean (section s ls fal
 dirty_section [] s = refl
 dirty_section (raw ∷ more) s =
     if_dirty (false || last_is 10 raw) _ _
-    (dirty_line (verdict s raw) (section (is_short (line_columns raw)) more false) (trailing (concat more) false) (dirty_section more (is_short (line_columns raw))) (dirty_trailing (concat more)))
+    (dirty_line (verdict s raw) (section (is_short (line_columns raw)) more false) (trailing (concat more) false)
+    (dirty_section more (is_short (line_columns raw))) (dirty_trailing (concat more)))
     refl
 
 dirty_delivered : (text : List ℕ) → is_clean (text_delivers text false).ending ≡ false

@@ -9,7 +9,7 @@ use Rattle.age_io.specs.declared.traits.Write.{Ghosts}
 use Rattle.age_v1.specs.Armor.{text_of}
 use Rattle.age_v1.specs.declared.format.Format.{Format}
 use Rattle.age_armor.specs.declared.writer.ArmoredWriter.{ArmoredWriter}
-use Rattle.age_armor.specs.Writing.{Appended, Finishes, IsFailed, IsGood, Refused, SendsFront, WasMade, WriterRefuses, held_len, in_armor, inner_of, is_armored, left_of}
+use Rattle.age_armor.specs.Writing.{Appended, Finishes, HasFailed, IsGood, Refused, SendsFront, WasMade, WriterRefuses, held_len, in_armor, inner_of, is_armored, left_of}
 
 -- Where a writer was made in a form and took bytes since, this holds of the text that carries them and of the inner writer from before the
 -- writer was made.
@@ -49,8 +49,8 @@ module _ {W : Type 0} (write : Ghosts W) where
     pub no_fewer_faults : write.faults (inner_of old) ≤ write.faults (inner_of new)
     pub narrows : OnOk result ((e : Error) → HandsOn write.refuses (inner_of new) e → HandsOn write.refuses (inner_of old) e)
     -- why it refuses, and that in armor it is failed then
-    pub fails : IsTrue (is_armored old) → IsFailed new
-    pub failed : IsFailed old → (result ≡ Err Failed) × (new ≡ old)
+    pub fails : IsTrue (is_armored old) → HasFailed new
+    pub failed : HasFailed old → (result ≡ Err Failed) × (new ≡ old)
     pub why : IfErr result (Refused write.refuses old 0)
     pub patient : IfErr result (λ e. IsInterruption e → ⊥)
     pub device : IfErr result (λ e. IsDevice e → write.faults (inner_of old) < write.faults (inner_of new))
@@ -65,7 +65,7 @@ module _ {W : Type 0} (write : Ghosts W) where
     pub no_fewer_faults : IfOk result (λ inner. write.faults (inner_of writer) ≤ write.faults inner)
     pub narrows : IfOk result (λ inner. (e : Error) → HandsOn write.refuses inner e → HandsOn write.refuses (inner_of writer) e)
     -- why it refuses
-    pub failed : IsFailed writer → result ≡ Err Failed
+    pub failed : HasFailed writer → result ≡ Err Failed
     pub why : IfErr result (Refused write.refuses writer 0)
     pub patient : IfErr result (λ e. IsInterruption e → ⊥)
 
@@ -73,8 +73,8 @@ module _ {W : Type 0} (write : Ghosts W) where
 -- interruptions were tried again, and armor stays armor.
 pub record FailsInArmor {W A : Type 0} (old new : ArmoredWriter W) (result : Result A Error) : Type 0 where
   pub good : OnOk result (IsGood old × IsGood new)
-  pub fails : IsTrue (is_armored old) → OnErr result (IsFailed new)
-  pub failed : IsFailed old → (result ≡ Err Failed) × (new ≡ old)
+  pub fails : IsTrue (is_armored old) → OnErr result (HasFailed new)
+  pub failed : HasFailed old → (result ≡ Err Failed) × (new ≡ old)
   pub patient : IsTrue (is_armored old) → IfErr result (λ e. IsInterruption e → ⊥)
   pub same_form : is_armored new ≡ is_armored old
 

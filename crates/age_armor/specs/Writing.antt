@@ -22,8 +22,8 @@ abbrev pub is_armored : {W : Type 0} → ArmoredWriter W → Bool
 is_armored writer = writer.armored
 
 -- it refused earlier; in binary it never does
-abbrev pub IsFailed : {W : Type 0} → ArmoredWriter W → Type 0
-IsFailed writer = writer.failed ≡ true
+abbrev pub HasFailed : {W : Type 0} → ArmoredWriter W → Type 0
+HasFailed writer = writer.failed ≡ true
 
 -- it did not
 abbrev pub IsGood : {W : Type 0} → ArmoredWriter W → Type 0

@@ -39,7 +39,8 @@ module _ {W : Type 0} (inner_appended : W → List ℕ → W → Type 0) where
       let rest : drop (48 * m) (t ++ y) ≡ b.held.items ++ y = drop-append-le (48 * m) t y fits ∙ sym held in
       let place : 48 * m + 48 * n ≡ 48 * (length (t ++ y) / 48) = omega (arith, count) in
       let now_held : c.held.items ≡ drop (48 * (length (t ++ y) / 48)) (t ++ y)
-      = second.held ∙ ap (λ (h : List ℕ). drop (48 * n) h) (sym rest) ∙ drop-drop (48 * n) (48 * m) (t ++ y) ∙ ap (λ (k : ℕ). drop k (t ++ y)) place in
+      = second.held ∙ ap (λ (h : List ℕ). drop (48 * n) h) (sym rest) ∙ drop-drop (48 * n) (48 * m) (t ++ y)
+      ∙ ap (λ (k : ℕ). drop k (t ++ y)) place in
       let out : full_lines (length (t ++ y) / 48) (t ++ y) ≡ full_lines m t ++ full_lines n (b.held.items ++ y)
       = rw (count, full_lines-both m n (t ++ y), full_lines-front m t y fits, rest) refl in
       let now_sent : inner_appended a.inner (full_lines (length (t ++ y) / 48) (t ++ y)) c.inner = rw out (both _ _ _ _ _ first.sent second.sent) in
@@ -49,7 +50,8 @@ module _ {W : Type 0} (inner_appended : W → List ℕ → W → Type 0) where
       }
 
   -- these bytes found room
-  pub Took-holding : ((w : W) → inner_appended w [] w) → (a : ArmoredWriter W) (x : List ℕ) (c : ArmoredWriter W) → length a.held.items + length x < 48 →
+  pub Took-holding : ((w : W) → inner_appended w [] w) → (a : ArmoredWriter W) (x : List ℕ) (c : ArmoredWriter W)
+      → length a.held.items + length x < 48 →
       c.held.items ≡ a.held.items ++ x → c.inner ≡ a.inner → Took inner_appended a x c
   unfolding full_lines
   Took-holding nothing a x c fit held same =
@@ -69,7 +71,8 @@ module _ {W : Type 0} (inner_appended : W → List ℕ → W → Type 0) where
   Appended-nothing nothing s = by_state s s.failed refl (Takes-nothing nothing s s.armored)
 
   pub Takes-both : ((a b c : W) (x y : List ℕ) → inner_appended a x b → inner_appended b y c → inner_appended a (x ++ y) c) →
-      (f : Bool) (a b c : ArmoredWriter W) (x y : List ℕ) → Takes inner_appended f a x b → Takes inner_appended f b y c → Takes inner_appended f a (x ++ y) c
+      (f : Bool) (a b c : ArmoredWriter W) (x y : List ℕ) → Takes inner_appended f a x b → Takes inner_appended f b y c
+      → Takes inner_appended f a (x ++ y) c
   Takes-both both true a b c x y first second = Took-both both a b c x y first second
   Takes-both both false a b c x y first second = both a.inner b.inner c.inner x y first second
 
@@ -174,7 +177,8 @@ module _ {W : Type 0} (refuses : W → ℕ → Error → Type 0) where
 
   -- and the other way round, where it may refuse no more than another writer
   pub handed-through : (f : Bool) (first : W) (s : ArmoredWriter W) →
-      ((n : ℕ) (e : Error) → Refused refuses s n e → WriterRefuses refuses f first n e) → (e : Error) → HandsOn (Refused refuses) s e → HandsOn refuses first e
+      ((n : ℕ) (e : Error) → Refused refuses s n e → WriterRefuses refuses f first n e) → (e : Error) → HandsOn (Refused refuses) s e
+      → HandsOn refuses first e
   handed-through f first s may e h = by_form f (may h.0) h.1
     where
       by_form : (g : Bool) → ((d : Error) → Refused refuses s h.0 d → WriterRefuses refuses g first h.0 d) → Retried (Refused refuses) s h.0 e →

@@ -18,6 +18,8 @@ use age_io::{BufRead, Read, fill, read_retrying};
 #[derive(Drop)]
 pub(crate) struct Counted<R: BufRead> {
     pub(crate) inner: R,
+    // How many bytes were taken: exactly so of a reader that tells its bytes, which has fewer than 2^63. Any other may
+    // have more, and the count stays at 2^64 - 1.
     pub(crate) taken: u64,
     // How many lines were taken, as far as the number goes.
     pub(crate) lines: u64,
@@ -67,7 +69,8 @@ impl<R: BufRead> Counted<R> {
         ensures some { IsTrue (R.Read.tells self.old.inner) → IfOk result (λ is. is ≡ false → 0 < length (R.Read.rest self.old.inner).bytes) }
         ensures end { IsTrue (R.Read.tells self.old.inner) → IfOk result (λ is. IsTrue is → IsCleanEnd (R.Read.rest self.old.inner)) }
         ensures why { IfErr result (λ e. e ≢ OutOfMemory → TriedAgain R.Read.refuses self.old.inner e) }
-        ensures cause { IsTrue (R.Read.tells self.old.inner) → IfErr result (λ e. e ≢ OutOfMemory → IsQuiet (R.Read.faults self.old.inner) (R.Read.faults self.new.inner) →
+        ensures cause { IsTrue (R.Read.tells self.old.inner)
+            → IfErr result (λ e. e ≢ OutOfMemory → IsQuiet (R.Read.faults self.old.inner) (R.Read.faults self.new.inner) →
             IsFault (R.Read.rest self.old.inner)) }
     {
         self.left = 0;
@@ -82,10 +85,12 @@ impl<R: BufRead> Counted<R> {
         ensures lines { self.new.lines ≡ self.old.lines }
         ensures count { IfOk result (λ n. n ≤ length buf.new) }
         ensures taken { IsTrue (R.Read.tells self.old.inner) → IfOk result (λ n. self.new.taken ≡ self.old.taken + n) }
-        ensures bytes { IsTrue (R.Read.tells self.old.inner) → IfOk result (λ n. Delivers (take n buf.new) (R.Read.rest self.old.inner) (R.Read.rest self.new.inner)) }
+        ensures bytes { IsTrue (R.Read.tells self.old.inner)
+            → IfOk result (λ n. Delivers (take n buf.new) (R.Read.rest self.old.inner) (R.Read.rest self.new.inner)) }
         ensures end { IsTrue (R.Read.tells self.old.inner) → IfOk result (λ n. n ≡ 0 → IsCleanEnd (R.Read.rest self.old.inner)) }
         ensures why { IfErr result (λ e. e ≢ OutOfMemory → TriedAgain R.Read.refuses self.old.inner e) }
-        ensures cause { IsTrue (R.Read.tells self.old.inner) → IfErr result (λ e. e ≢ OutOfMemory → IsQuiet (R.Read.faults self.old.inner) (R.Read.faults self.new.inner) →
+        ensures cause { IsTrue (R.Read.tells self.old.inner)
+            → IfErr result (λ e. e ≢ OutOfMemory → IsQuiet (R.Read.faults self.old.inner) (R.Read.faults self.new.inner) →
             IsFault (R.Read.rest self.old.inner)) }
     {
         self.left = 0;
@@ -104,11 +109,15 @@ impl<R: BufRead> Counted<R> {
         requires { 0 < length front.old }
         ensures kept { Kept ⟦<R as Read>⟧ self.old.inner self.old.taken self.new.inner self.new.taken result }
         ensures lines { self.new.lines ≡ self.old.lines }
-        ensures taken { IsTrue (R.Read.tells self.old.inner) → IfOk result (λ whole. IsTrue whole → self.new.taken ≡ self.old.taken + length front.new) }
-        ensures bytes { IsTrue (R.Read.tells self.old.inner) → IfOk result (λ whole. IsTrue whole → Delivers front.new (R.Read.rest self.old.inner) (R.Read.rest self.new.inner)) }
-        ensures few { IsTrue (R.Read.tells self.old.inner) → IfOk result (λ whole. whole ≡ false → IsFew (length front.new) true (R.Read.rest self.old.inner)) }
+        ensures taken { IsTrue (R.Read.tells self.old.inner)
+            → IfOk result (λ whole. IsTrue whole → self.new.taken ≡ self.old.taken + length front.new) }
+        ensures bytes { IsTrue (R.Read.tells self.old.inner)
+            → IfOk result (λ whole. IsTrue whole → Delivers front.new (R.Read.rest self.old.inner) (R.Read.rest self.new.inner)) }
+        ensures few { IsTrue (R.Read.tells self.old.inner)
+            → IfOk result (λ whole. whole ≡ false → IsFew (length front.new) true (R.Read.rest self.old.inner)) }
         ensures why { IfErr result (λ e. e ≢ OutOfMemory → TriedAgain R.Read.refuses self.old.inner e) }
-        ensures cause { IsTrue (R.Read.tells self.old.inner) → IfErr result (λ e. e ≢ OutOfMemory → IsQuiet (R.Read.faults self.old.inner) (R.Read.faults self.new.inner) →
+        ensures cause { IsTrue (R.Read.tells self.old.inner)
+            → IfErr result (λ e. e ≢ OutOfMemory → IsQuiet (R.Read.faults self.old.inner) (R.Read.faults self.new.inner) →
             IsFew (length front.new) false (R.Read.rest self.old.inner)) }
     {
         self.left = 0;
@@ -127,7 +136,8 @@ impl<R: BufRead> Counted<R> {
         ensures kept { Kept ⟦<R as Read>⟧ self.old.inner self.old.taken self.new.inner self.new.taken result }
         ensures none { TakesNone self.old self.new result }
         ensures why { IfErr result (λ e. e ≢ OutOfMemory → TriedAgain R.Read.refuses self.old.inner e) }
-        ensures cause { IsTrue (R.Read.tells self.old.inner) → IfErr result (λ e. e ≢ OutOfMemory → IsQuiet (R.Read.faults self.old.inner) (R.Read.faults self.new.inner) →
+        ensures cause { IsTrue (R.Read.tells self.old.inner)
+            → IfErr result (λ e. e ≢ OutOfMemory → IsQuiet (R.Read.faults self.old.inner) (R.Read.faults self.new.inner) →
             IsFault (R.Read.rest self.old.inner)) }
     {
         if self.left > 0 {
@@ -155,6 +165,7 @@ impl<R: BufRead> Counted<R> {
         ensures counts { self.old.lines ≤ self.new.lines }
     {
         bytes.copy_from_slice(&self.ahead[self.next..self.next + LINE]);
+        // For the proof alone: these are bytes, each below 256.
         known_bytes(bytes);
         self.inner.consume(LINE_TEXT);
         self.taken = self.taken.saturating_add(65);
@@ -172,14 +183,17 @@ impl<R: BufRead> Counted<R> {
         bytes: &mut [u8; 48],
     ) -> Result<bool, Error>
         ensures kept { Kept ⟦<R as Read>⟧ self.old.inner self.old.taken self.new.inner self.new.taken result }
-        ensures none { IsTrue (R.Read.tells self.old.inner) → IfOk result (λ is. is ≡ false → R.Read.rest self.new.inner ≡ R.Read.rest self.old.inner) }
-        ensures full { IsTrue (R.Read.tells self.old.inner) → IfOk result (λ is. IsTrue is → TakesFull bytes.new (R.Read.rest self.old.inner) (R.Read.rest self.new.inner)) }
+        ensures none { IsTrue (R.Read.tells self.old.inner)
+            → IfOk result (λ is. is ≡ false → R.Read.rest self.new.inner ≡ R.Read.rest self.old.inner) }
+        ensures full { IsTrue (R.Read.tells self.old.inner)
+            → IfOk result (λ is. IsTrue is → TakesFull bytes.new (R.Read.rest self.old.inner) (R.Read.rest self.new.inner)) }
         ensures taken { IsTrue (R.Read.tells self.old.inner) → IfOk result (λ is. IsTrue is → self.new.taken ≡ self.old.taken + 65) }
         ensures lines { IfOk result (λ is. self.new.lines ≡ (if is then one_line_more self.old.lines else self.old.lines)) }
         ensures none_taken { OnErr result (self.new.lines ≡ self.old.lines) }
         ensures counts { self.old.lines ≤ self.new.lines }
         ensures why { IfErr result (λ e. e ≢ OutOfMemory → TriedAgain R.Read.refuses self.old.inner e) }
-        ensures cause { IsTrue (R.Read.tells self.old.inner) → IfErr result (λ e. e ≢ OutOfMemory → IsQuiet (R.Read.faults self.old.inner) (R.Read.faults self.new.inner) →
+        ensures cause { IsTrue (R.Read.tells self.old.inner)
+            → IfErr result (λ e. e ≢ OutOfMemory → IsQuiet (R.Read.faults self.old.inner) (R.Read.faults self.new.inner) →
             IsFault (R.Read.rest self.old.inner)) }
     {
         match self.look_ahead(decoder) {
@@ -197,9 +211,11 @@ impl<R: BufRead> Counted<R> {
         ensures kept { Kept ⟦<R as Read>⟧ self.old.inner self.old.taken self.new.inner self.new.taken result }
         ensures counts { CountsOne (length line.new.items) self.old.lines self.new.lines result }
         ensures taken { IsTrue (R.Read.tells self.old.inner) → OnOk result (self.new.taken ≡ self.old.taken + length line.new.items) }
-        ensures line { IsTrue (R.Read.tells self.old.inner) → OnOk result (TakesLine line.new.items (R.Read.rest self.old.inner) (R.Read.rest self.new.inner)) }
+        ensures line { IsTrue (R.Read.tells self.old.inner)
+            → OnOk result (TakesLine line.new.items (R.Read.rest self.old.inner) (R.Read.rest self.new.inner)) }
         ensures why { IfErr result (λ e. e ≢ OutOfMemory → TriedAgain R.Read.refuses self.old.inner e) }
-        ensures cause { IsTrue (R.Read.tells self.old.inner) → IfErr result (λ e. e ≢ OutOfMemory → IsQuiet (R.Read.faults self.old.inner) (R.Read.faults self.new.inner) →
+        ensures cause { IsTrue (R.Read.tells self.old.inner)
+            → IfErr result (λ e. e ≢ OutOfMemory → IsQuiet (R.Read.faults self.old.inner) (R.Read.faults self.new.inner) →
             IsCutShort (R.Read.rest self.old.inner)) }
     {
         self.left = 0;
@@ -232,10 +248,12 @@ impl<R: BufRead> Counted<R> {
     pub(crate) fn take_trailing(&mut self, room: &mut [u8; 48]) -> Result<(), Error>
         ensures kept { Kept ⟦<R as Read>⟧ self.old.inner self.old.taken self.new.inner self.new.taken result }
         ensures lines { self.new.lines ≡ self.old.lines }
-        ensures clean { IsTrue (R.Read.tells self.old.inner) → OnOk result (trailing (R.Read.rest self.old.inner).bytes (R.Read.rest self.old.inner).ends_well ≡ Clean) }
+        ensures clean { IsTrue (R.Read.tells self.old.inner)
+            → OnOk result (trailing (R.Read.rest self.old.inner).bytes (R.Read.rest self.old.inner).ends_well ≡ Clean) }
         ensures why { IsTrue (R.Read.tells self.old.inner) → IfErr result (OrEnd ⟦<R as Read>⟧ self.old.inner
             (ends_in (trailing (R.Read.rest self.old.inner).bytes (R.Read.rest self.old.inner).ends_well))) }
-        ensures cause { IsTrue (R.Read.tells self.old.inner) → IfErr result (λ e. e ≢ OutOfMemory → IsQuiet (R.Read.faults self.old.inner) (R.Read.faults self.new.inner) →
+        ensures cause { IsTrue (R.Read.tells self.old.inner)
+            → IfErr result (λ e. e ≢ OutOfMemory → IsQuiet (R.Read.faults self.old.inner) (R.Read.faults self.new.inner) →
             NamesEnding (trailing (R.Read.rest self.old.inner).bytes (R.Read.rest self.old.inner).ends_well) e) }
     {
         for _count in 0..u64::MAX {

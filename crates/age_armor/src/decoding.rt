@@ -33,6 +33,7 @@ impl Decoder {
     {
         match self.engine.decode_slice_unchecked(columns, bytes) {
             Ok(count) => {
+                // For the proof alone: these are bytes, each below 256.
                 known_bytes(bytes);
                 Some(count)
             }
@@ -48,11 +49,13 @@ impl Decoder {
     {
         if columns.len() % 64 == 0 {
             let is_right = decode_full(columns, bytes);
+            // For the proof alone: these are bytes, each below 256.
             known_bytes(bytes);
             return is_right;
         }
         match self.engine.decode_slice_unchecked(columns, bytes) {
             Ok(count) => {
+                // For the proof alone: these are bytes, each below 256.
                 known_bytes(bytes);
                 count == bytes.len()
             }

@@ -1,5 +1,5 @@
 //! The verdict on a line.
-ghost use Rattle.std.specs.Prelude.{◌≡◌, ◌≤◌, Bool, true, false, List, take, drop, length, MatchOption};
+ghost use Rattle.std.specs.Prelude.{◌≡◌, true, false, MatchOption};
 ghost use Rattle.age_v1.specs.ArmorLineVerdict.{verdict, columns_verdict, line_columns, is_short, last_is, but_last};
 ghost use Rattle.age_armor.specs.PrivateJudging.{IsJudged};
 

@@ -67,8 +67,10 @@ pub fn first_fault_is_unique()
     ensures either { (text : List ℕ) → AreBytes text
         → ((bytes : List ℕ) × Carries text bytes) ⊎ ((bytes : List ℕ) × (e : Refusal) × IsFirstFault text bytes e) }
     ensures exclusive { (text bytes others : List ℕ) (e : Refusal) → Carries text bytes → IsFirstFault text others e → ⊥ }
-    ensures unique { (text bytes others : List ℕ) (e f : Refusal) → IsFirstFault text bytes e → IsFirstFault text others f → (bytes ≡ others) × (e ≡ f) }
-    ensures delivered { (text bytes : List ℕ) (e : Refusal) → IsFirstFault text bytes e → text_delivers text true ≡ record { bytes = bytes; ending = Refused e } }
+    ensures unique { (text bytes others : List ℕ) (e f : Refusal) → IsFirstFault text bytes e → IsFirstFault text others f
+        → (bytes ≡ others) × (e ≡ f) }
+    ensures delivered { (text bytes : List ℕ) (e : Refusal) → IsFirstFault text bytes e
+        → text_delivers text true ≡ record { bytes = bytes; ending = Refused e } }
 {}
 
 /// What a writer has sent that was made in a form over an inner writer, and was given bytes since by writes and flushes of any number, also

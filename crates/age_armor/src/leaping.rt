@@ -39,7 +39,8 @@ impl<R: BufRead + Seek> Counted<R> {
     /// not moved.
     #[tactic(auto, using(crate::proofs::AheadLines::ahead_none))]
     pub(crate) fn leap(&mut self, taken: u64) -> Result<bool, Error>
-        ensures keeps { KeepsReader ⟦<R as Read>⟧ (OrSeek (OrAstray R.Seek.seek_refuses) (TriedAgain R.Read.refuses)) self.old.inner self.new.inner result }
+        ensures keeps { KeepsReader ⟦<R as Read>⟧
+            (OrSeek (OrAstray R.Seek.seek_refuses) (TriedAgain R.Read.refuses)) self.old.inner self.new.inner result }
         ensures unspent { IfOk result (λ there. IsTrue there → R.Read.faults self.new.inner < most_faults) }
         ensures lines { self.new.lines ≡ self.old.lines }
         ensures origin { IsTrue (R.Read.tells self.old.inner) →

@@ -1,21 +1,18 @@
 //! Reading armor.
-ghost use Rattle.std.specs.Prelude.{◌≡◌, ◌≢◌, ◌+◌, ◌-◌, ◌*◌, ◌^◌, ◌≤◌, ◌<◌, true, false, IsTrue, [], length, take, drop, min, IfOk, IfErr, OnErr, IsOk, Ok, Err, Some, codes};
+ghost use Rattle.std.specs.Prelude.{◌≡◌, ◌≢◌, ◌+◌, ◌-◌, ◌*◌, ◌≤◌, ◌<◌, true, false, IsTrue, [], length, take, drop, min, IfOk, IfErr, OnErr, IsOk, Ok, Err, Some, codes};
 ghost use Rattle.age_error.specs.declared.io.Error.TheVariants.{OutOfMemory, Failed};
-ghost use Rattle.age_io.specs.Stretch.{nothing, from_place, IsFault};
-ghost use Rattle.age_io.specs.Reading.{Reads, IsQuiet, Delivers, StandsIn, most_faults};
-ghost use Rattle.age_io.specs.Filling.{IsFront, Consumes};
+ghost use Rattle.age_io.specs.Stretch.{IsFault};
+ghost use Rattle.age_io.specs.Reading.{IsQuiet, Delivers, StandsIn};
+ghost use Rattle.age_io.specs.Filling.{IsFront};
 ghost use Rattle.age_io.specs.Failing.{FailsForGood};
-ghost use Rattle.age_v1.specs.DeliveredArmor.{begins_armor};
-ghost use Rattle.age_armor.specs.Stages.{is_start, has_lines};
-ghost use Rattle.age_armor.specs.PrivateStages.{FindsForm, is_ended};
+ghost use Rattle.age_io.specs.Calls.{ConsumesBy, ReadsBy};
+ghost use Rattle.age_armor.specs.Stages.{is_start};
+ghost use Rattle.age_armor.specs.PrivateStages.{is_ended};
 ghost use Rattle.age_armor.specs.declared.stages.Stage.TheVariants.{Binary};
-ghost use Rattle.age_armor.specs.Ahead.{outcome_ahead, rest_ahead};
-ghost use Rattle.age_v1.proofs.DeliveredArmors.{content_of, content_bytes, content_short, stands_by};
+ghost use Rattle.age_v1.proofs.DeliveredArmors.{content_bytes, content_short, stands_by};
 ghost use Rattle.age_armor.specs.ReaderLemmas.{spent_ahead, well_inner};
-ghost use Rattle.age_armor.specs.Marks.{is_known};
 ghost use Rattle.age_armor.specs.PrivateReader.{IsSound};
 ghost use Rattle.age_armor.specs.Windows.{held_in};
-ghost use Rattle.age_armor.specs.Seeking.{text_outcome};
 
 use crate::counted::Counted;
 use crate::decoding::Decoder;
@@ -47,6 +44,8 @@ pub struct ArmoredReader<R: BufRead> {
     line: Vec<u8>,
     // What was read and not given yet.
     pub(crate) window: Window,
+    // How many bytes of the content were given. This too is exact where the inner reader tells its bytes, and stays at
+    // 2^64 - 1.
     pub(crate) place: u64,
     pub(crate) failed: bool,
     pub(crate) marks: Marks,
@@ -77,7 +76,8 @@ impl<R: BufRead> Read for ArmoredReader<R> {
     ghost spent = { λ r told is. spent_ahead r.failed (held_in r.window) r.stage (R.Read.rest r.source.inner)
         (R.Read.faults r.source.inner) r.sound.fresh r.sound.unspent is (R.Read.spent r.source.inner told is) };
 
-    ghost well = { λ r told well. R.Read.well r.source.inner told (well_inner (R.Read.content r.source.inner) (R.Read.place r.source.inner - r.source.taken + r.preceding) well) };
+    ghost well = { λ r told well. R.Read.well r.source.inner told
+        (well_inner (R.Read.content r.source.inner) (R.Read.place r.source.inner - r.source.taken + r.preceding) well) };
 
     ghost stands = { λ r told steady. stands_by (armored_content r) (armored_rest r) r.place (r.sound.text told steady).inside
         (λ some. ((r.sound.text told steady).follows some).rest) };
@@ -199,8 +199,7 @@ impl<R: BufRead> ArmoredReader<R> {
     pub(crate) fn read_on(&mut self, buf: &mut [u8]) -> Result<usize, Error>
         requires good { self.old.failed ≡ false }
         requires some { 0 < length buf.old }
-        ensures reads { let reader = ⟦<ArmoredReader<R> as Read>⟧ in
-            Reads reader.tells reader.steady reader.content reader.place reader.rest reader.faults reader.refuses self.old self.new buf.new result }
+        ensures reads { ReadsBy ⟦<ArmoredReader<R> as Read>⟧ self.old self.new buf.new result }
         ensures good { FailsForGood (has_failed self.old) (has_failed self.new) result }
         ensures ending { EndsAsBefore self.old self.new result }
         ensures why { RefusesAsTold self.old result }
@@ -236,8 +235,7 @@ impl<R: BufRead> ArmoredReader<R> {
         requires some { 0 < length buf.old }
         requires binary { self.old.stage ≡ Binary }
         requires given { held_in self.old.window ≡ [] }
-        ensures reads { let reader = ⟦<ArmoredReader<R> as Read>⟧ in
-            Reads reader.tells reader.steady reader.content reader.place reader.rest reader.faults reader.refuses self.old self.new buf.new result }
+        ensures reads { ReadsBy ⟦<ArmoredReader<R> as Read>⟧ self.old self.new buf.new result }
         ensures good { FailsForGood (has_failed self.old) (has_failed self.new) result }
         ensures ending { EndsAsBefore self.old self.new result }
         ensures why { RefusesAsTold self.old result }
@@ -377,8 +375,7 @@ impl<R: BufRead> BufRead for ArmoredReader<R> {
     /// fails nor makes good again, and what was found of the text is the same.
     fn consume(&mut self, amount: usize)
         requires { amount ≤ length (shown_of self.old) }
-        ensures consumes { let reader = ⟦<ArmoredReader<R> as Read>⟧ in
-            Consumes reader.tells reader.steady reader.content reader.place reader.rest reader.faults reader.refuses (λ r. shown_of r) self.old self.new amount }
+        ensures consumes { ConsumesBy ⟦<ArmoredReader<R> as Read>⟧ (λ r. shown_of r) self.old self.new amount }
         ensures same { SameButPlace self.old self.new }
     {
         self.window.pass(amount);

@@ -65,11 +65,13 @@ impl<R: BufRead + Seek> ArmoredReader<R> {
     // Goes to the last mark that isn't after a place, or to the front of the text. A binary text has no marks.
     fn approach(&mut self, target: u64) -> Result<(), Error>
         requires { self.old.stage ≡ Binary → ⊥ }
-        ensures goes { let reader = ⟦<ArmoredReader<R> as Read>⟧ in Goes reader (OrSeek (OrAstray R.Seek.seek_refuses) reader.refuses) self.old self.new result }
+        ensures goes { let reader = ⟦<ArmoredReader<R> as Read>⟧ in
+            Goes reader (OrSeek (OrAstray R.Seek.seek_refuses) reader.refuses) self.old self.new result }
         ensures text { KeepsText self.old self.new }
         ensures stands { StandsInText self.old self.new result }
         ensures before { OnOk result (self.new.place ≤ target) }
-        ensures near { WhereSteady self.old (IsTrue (notes_all self.old) → IsTrue (begins_armor (source_of self.old).bytes) → target ≤ furthest_of self.old →
+        ensures near { WhereSteady self.old (IsTrue (notes_all self.old) → IsTrue (begins_armor (source_of self.old).bytes)
+            → target ≤ furthest_of self.old →
             OnOk result (target ≤ self.new.place + 49152)) }
         ensures unread { (self.new.source.lines ≡ self.old.source.lines) × (self.new.marks ≡ self.old.marks) }
         ensures front { target ≡ 0 → OnOk result ((taken_of self.new ≡ 0) × (shown_of self.new ≡ [])) }
@@ -156,12 +158,14 @@ impl<R: BufRead + Seek> ArmoredReader<R> {
 
     // Finds out which form the text has, where nothing was read and the target is behind the front: it reads a byte for that.
     fn find_form(&mut self, target: u64) -> Result<(), Error>
-        ensures keeps { let reader = ⟦<ArmoredReader<R> as Read>⟧ in KeepsReader reader (OrSeek (OrAstray R.Seek.seek_refuses) reader.refuses) self.old self.new result }
+        ensures keeps { let reader = ⟦<ArmoredReader<R> as Read>⟧ in
+            KeepsReader reader (OrSeek (OrAstray R.Seek.seek_refuses) reader.refuses) self.old self.new result }
         ensures text { KeepsText self.old self.new }
         ensures finds { OnOk result ((self.new ≡ self.old) ⊎ (IsNew self.old × (0 < target))) }
         ensures known { WherePlain self.old (0 < target → OnOk result (is_start self.new.stage ≡ false)) }
         ensures other { IfErr result (λ e. IsOutside e → ⊥) }
-        ensures misses { IfErr result (λ e. (to : SeekFrom) → ((len : ℕ) → len < target → AsksPast to (place_of self.old) len) → Misses self.old self.new to (Err e)) }
+        ensures misses { IfErr result (λ e. (to : SeekFrom) → ((len : ℕ) → len < target → AsksPast to (place_of self.old) len)
+            → Misses self.old self.new to (Err e)) }
     {
         if target == 0 || !self.is_new() {
             return Ok(());
@@ -179,7 +183,8 @@ impl<R: BufRead + Seek> ArmoredReader<R> {
     // Goes to the end of a binary text, for which the inner reader is asked.
     fn jump_to_end(&mut self) -> Result<(), Error>
         requires { self.old.stage ≡ Binary }
-        ensures below { KeepsReader ⟦<R as Read>⟧ (OrSeek (OrAstray R.Seek.seek_refuses) (OrWant ⟦<R as Read>⟧)) (inner_of self.old) (inner_of self.new) result }
+        ensures below { KeepsReader ⟦<R as Read>⟧ (OrSeek (OrAstray R.Seek.seek_refuses) (OrWant ⟦<R as Read>⟧)) (inner_of self.old)
+            (inner_of self.new) result }
         ensures unspent { OnOk result (R.Read.faults (inner_of self.new) < most_faults) }
         ensures origin { WhereTold self.old (origin_of self.new ≡ origin_of self.old) }
         ensures text { KeepsText self.old self.new }
@@ -240,7 +245,8 @@ impl<R: BufRead + Seek> ArmoredReader<R> {
     fn go_along(&mut self, target: u64) -> Result<u64, Error>
         requires { self.old.stage ≡ Binary → ⊥ }
         ensures goes { GoesTo R.Seek.seek_refuses self.old self.new (Start target) result }
-        ensures lines { WhereSteady self.old (IsTrue (notes_all self.old) → target ≤ furthest_of self.old → OnOk result (self.new.source.lines ≤ self.old.source.lines + 1024)) }
+        ensures lines { WhereSteady self.old (IsTrue (notes_all self.old) → target ≤ furthest_of self.old
+            → OnOk result (self.new.source.lines ≤ self.old.source.lines + 1024)) }
         ensures front { target ≡ 0 → IfOk result (λ n. (self.new.source.lines ≡ self.old.source.lines) × LandsBelow self.new n) }
     {
         match self.approach(target) {
@@ -262,7 +268,8 @@ impl<R: BufRead + Seek> ArmoredReader<R> {
     // Goes to a place as the form of the text allows, where that is known or the place is the front.
     fn go_by_form(&mut self, target: u64) -> Result<u64, Error>
         ensures goes { GoesTo R.Seek.seek_refuses self.old self.new (Start target) result }
-        ensures lines { WhereSteady self.old (IsTrue (notes_all self.old) → target ≤ furthest_of self.old → OnOk result (self.new.source.lines ≤ self.old.source.lines + 1024)) }
+        ensures lines { WhereSteady self.old (IsTrue (notes_all self.old) → target ≤ furthest_of self.old
+            → OnOk result (self.new.source.lines ≤ self.old.source.lines + 1024)) }
         ensures unread { target ≡ 0 → OnOk result (self.new.source.lines ≡ self.old.source.lines) }
         ensures lands { WherePlain self.old ((is_start self.old.stage ≡ true → target ≡ 0) → IfOk result (λ n. LandsBelow self.new n)) }
     {
@@ -275,7 +282,8 @@ impl<R: BufRead + Seek> ArmoredReader<R> {
 
     // Goes to a place. Nothing is asked where it stands there, or where the text is known to end before it.
     fn go_to(&mut self, target: u64) -> Result<u64, Error>
-        ensures goes { let reader = ⟦<ArmoredReader<R> as Read>⟧ in Goes reader (OrSeek (OrAstray R.Seek.seek_refuses) reader.refuses) self.old self.new result }
+        ensures goes { let reader = ⟦<ArmoredReader<R> as Read>⟧ in
+            Goes reader (OrSeek (OrAstray R.Seek.seek_refuses) reader.refuses) self.old self.new result }
         ensures text { KeepsText self.old self.new }
         ensures reaches { Reaches self.old self.new (Start target) result }
         ensures misses { Misses self.old self.new (Start target) result }
@@ -337,7 +345,8 @@ impl<R: BufRead + Seek> ArmoredReader<R> {
 
     // Goes to a place counted from the end, which isn't known yet. At the end itself it stands then already.
     fn look_from_end(&mut self, distance: i64) -> Result<u64, Error>
-        ensures goes { let reader = ⟦<ArmoredReader<R> as Read>⟧ in Goes reader (OrSeek (OrAstray R.Seek.seek_refuses) reader.refuses) self.old self.new result }
+        ensures goes { let reader = ⟦<ArmoredReader<R> as Read>⟧ in
+            Goes reader (OrSeek (OrAstray R.Seek.seek_refuses) reader.refuses) self.old self.new result }
         ensures text { KeepsText self.old self.new }
         ensures reaches { Reaches self.old self.new (End distance) result }
         ensures misses { Misses self.old self.new (End distance) result }
@@ -375,7 +384,8 @@ impl<R: BufRead + Seek> ArmoredReader<R> {
 
     // Goes to a place counted from the end.
     fn go_from_end(&mut self, distance: i64) -> Result<u64, Error>
-        ensures goes { let reader = ⟦<ArmoredReader<R> as Read>⟧ in Goes reader (OrSeek (OrAstray R.Seek.seek_refuses) reader.refuses) self.old self.new result }
+        ensures goes { let reader = ⟦<ArmoredReader<R> as Read>⟧ in
+            Goes reader (OrSeek (OrAstray R.Seek.seek_refuses) reader.refuses) self.old self.new result }
         ensures text { KeepsText self.old self.new }
         ensures reaches { Reaches self.old self.new (End distance) result }
         ensures misses { Misses self.old self.new (End distance) result }
@@ -400,7 +410,8 @@ impl<R: BufRead> ArmoredReader<R> {
     #[tactic(auto, using(crate::proofs::Ahead::rest_failed))]
     fn fail_at(&mut self, place: u64)
         requires fits { IsTrue (R.Read.tells (inner_of self.old)) → place < 2 ^ 63 }
-        requires inside { IsTrue (R.Read.tells (inner_of self.old)) → IsTrue (R.Read.steady (inner_of self.old)) → place ≤ length (armored_content self.old).bytes }
+        requires inside { IsTrue (R.Read.tells (inner_of self.old)) → IsTrue (R.Read.steady (inner_of self.old))
+            → place ≤ length (armored_content self.old).bytes }
         ensures source { self.new.source ≡ self.old.source }
         ensures preceding { self.new.preceding ≡ self.old.preceding }
         ensures marks { self.new.marks ≡ self.old.marks }
@@ -422,10 +433,13 @@ impl<R: BufRead + Seek> ArmoredReader<R> {
     // failed before.
     fn come_back(&mut self, place: u64, failed: bool, error: Error) -> Error
         requires fits { IsTrue (R.Read.tells (inner_of self.old)) → place < 2 ^ 63 }
-        requires inside { IsTrue (R.Read.tells (inner_of self.old)) → IsTrue (R.Read.steady (inner_of self.old)) → place ≤ length (armored_content self.old).bytes }
-        ensures back { ComesBack ⟦<ArmoredReader<R> as Read>⟧ (λ r. has_failed r) (OrAstray R.Seek.seek_refuses) self.old self.new place failed error result }
+        requires inside { IsTrue (R.Read.tells (inner_of self.old)) → IsTrue (R.Read.steady (inner_of self.old))
+            → place ≤ length (armored_content self.old).bytes }
+        ensures back { ComesBack ⟦<ArmoredReader<R> as Read>⟧ (λ r. has_failed r)
+            (OrAstray R.Seek.seek_refuses) self.old self.new place failed error result }
         ensures text { KeepsText self.old self.new }
-        ensures lines { WhereSteady self.old (self.old.failed ≡ failed → self.old.place ≡ place → IsOutside result → self.new.source.lines ≤ self.old.source.lines) }
+        ensures lines { WhereSteady self.old (self.old.failed ≡ failed → self.old.place ≡ place → IsOutside result
+            → self.new.source.lines ≤ self.old.source.lines) }
         ensures ending { EndsAsText self.old self.new }
     {
         if failed {
@@ -517,10 +531,11 @@ impl<R: BufRead + Seek> Seek for ArmoredReader<R> {
 
     /// Moves within what the text carries, and answers the new place in bytes from its front.
     ///
-    /// A seek in a binary text is one of the inner reader, counted from where the text begins: no byte of the text is read but the 36
-    /// that tell its form, and for its end, once, the inner reader is asked for bytes behind it. Armor is read on from the last mark that isn't after the target, or else
-    /// from its front, as far as the target asks, and for `SeekFrom::End` once to its end. So a target that stands before the first fault of the text is moved to, and
-    /// makes a failed reader good again. A target not beyond the furthest place that was come to takes at most 1,024 lines, as
+    /// A seek in a binary text is one of the inner reader, counted from where the text begins: no byte of the text is
+    /// read but the 36 that tell its form, and for its end, once, the inner reader is asked for bytes behind it. Armor is
+    /// read on from the last mark that isn't after the target, or else from its front, as far as the target asks, and for
+    /// `SeekFrom::End` once to its end. So a target that stands before the first fault of the text is moved to, and makes
+    /// a failed reader good again. A target not beyond the furthest place that was come to takes at most 1,024 lines, as
     /// `lines` counts them. Nothing is read for the place at which a reader stands that has begun, nor, once the end was read,
     /// for a target outside of what the text carries. A refusal is
     ///

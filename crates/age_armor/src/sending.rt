@@ -1,5 +1,5 @@
 //! What goes out to the inner writer.
-ghost use Rattle.std.specs.Prelude.{◌≡◌, ℕ, ◌+◌, ◌*◌, ◌/◌, ◌%◌, ◌<◌, ◌≤◌, IsTrue, true, List, length, OnOk};
+ghost use Rattle.std.specs.Prelude.{◌≡◌, ◌+◌, ◌*◌, ◌/◌, ◌%◌, ◌<◌, ◌≤◌, IsTrue, true, length, OnOk};
 ghost use Rattle.age_base64.specs.Lines.{line};
 ghost use Rattle.age_base64.specs.Base64.{padded_columns};
 ghost use Rattle.age_io.specs.Copying.{AppendsFront};

@@ -1,5 +1,5 @@
 //! What is done with the bytes that a reader shows. Each call is tried again after an interruption, up to 16 times.
-ghost use Rattle.std.specs.Prelude.{◌≡◌, ◌≢◌, ℕ, ◌+◌, ◌<◌, Bool, true, false, IsTrue, List, [], ◌∷◌, ◌++◌, length, take, drop, vec_len, MatchOption, IfOk, IfErr, OnOk, OnErr};
+ghost use Rattle.std.specs.Prelude.{◌≡◌, ◌+◌, ◌<◌, true, false, IsTrue, length, vec_len, MatchOption, IfOk, IfErr, OnOk, OnErr};
 ghost use Rattle.age_error.specs.Refusals.{IsInterruption};
 ghost use Rattle.age_io.specs.Stretch.{IsCleanEnd};
 ghost use Rattle.age_io.specs.Reading.{TriedAgain};

@@ -45,7 +45,8 @@ fn detect<R: BufRead>(source: &mut Counted<R>, bytes: &mut [u8; 48]) -> Result<P
     ensures fits { IfOk result (λ piece. piece.count ≤ 48) }
     ensures gives { GivesPiece Start source.old source.new bytes.new result }
     ensures found { IfOk result (λ piece. IsFound piece) }
-    ensures form { IsTrue (R.Read.tells source.old.inner) → IfOk result (λ piece. FindsForm (has_lines piece.next) (R.Read.rest source.old.inner).bytes) }
+    ensures form { IsTrue (R.Read.tells source.old.inner)
+        → IfOk result (λ piece. FindsForm (has_lines piece.next) (R.Read.rest source.old.inner).bytes) }
 {
     let mut front = [0u8; 35];
     match source.take_front(&mut front) {
@@ -81,7 +82,8 @@ fn after_front<R: BufRead>(
         0 < length (R.Read.rest source.old.inner).bytes → IfErr result (λ e. e ≢ OutOfMemory →
         IsQuiet (R.Read.faults source.old.inner) (R.Read.faults source.new.inner) → StopsWith (text_delivers all.bytes all.ends_well) e) }
     ensures why { IsTrue (R.Read.tells source.old.inner) → (all : Stretch) → Delivers front.now all (R.Read.rest source.old.inner) →
-        0 < length (R.Read.rest source.old.inner).bytes → IfErr result (OrEnd ⟦<R as Read>⟧ source.old.inner (text_delivers all.bytes all.ends_well)) }
+        0 < length (R.Read.rest source.old.inner).bytes
+        → IfErr result (OrEnd ⟦<R as Read>⟧ source.old.inner (text_delivers all.bytes all.ends_well)) }
 {
     if !front.starts_with(b"-----BEGIN AGE ENCRYPTED FILE-----") {
         bytes[..35].copy_from_slice(front);
@@ -197,8 +199,10 @@ fn first<R: BufRead>(
     ensures gives { GivesPiece Start source.old source.new bytes.new result }
     ensures bare { IfOk result (λ piece. has_lines piece.next ≡ false → source.new.lines ≡ source.old.lines) }
     ensures line { IfOk result (λ piece. has_lines piece.next ≡ true → source.new.lines ≡ one_line_more source.old.lines) }
-    ensures binary { IsTrue (R.Read.tells source.old.inner) → begins_armor (R.Read.rest source.old.inner).bytes ≡ false → source.new.lines ≡ source.old.lines }
-    ensures form { IsTrue (R.Read.tells source.old.inner) → IfOk result (λ piece. FindsForm (has_lines piece.next) (R.Read.rest source.old.inner).bytes) }
+    ensures binary { IsTrue (R.Read.tells source.old.inner) → begins_armor (R.Read.rest source.old.inner).bytes ≡ false
+        → source.new.lines ≡ source.old.lines }
+    ensures form { IsTrue (R.Read.tells source.old.inner)
+        → IfOk result (λ piece. FindsForm (has_lines piece.next) (R.Read.rest source.old.inner).bytes) }
 {
     match detect(source, bytes) {
         Ok(piece) => match piece.next {

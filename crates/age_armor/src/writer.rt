@@ -85,7 +85,8 @@ impl<W: Write> ArmoredWriter<W> {
     /// `wraps` says what the contract of `wrap_output` says, of the writer or of the refusal alone.
     pub fn begin(alloc: Global, inner: W, format: Format) -> Result<Self, (W, Error)>
         ensures wraps { WrapsOutput ⟦<W as Write>⟧ inner format (result_map_both (λ writer. writer) (λ back. back.1) result) }
-        ensures front { IsTrue (W.tells inner) → IfErr result (λ back. (bytes : List ℕ) → AppendsFront W.appended (text_of format bytes) inner back.0) }
+        ensures front { IsTrue (W.tells inner) → IfErr result
+            (λ back. (bytes : List ℕ) → AppendsFront W.appended (text_of format bytes) inner back.0) }
         ensures device { IfErr result (λ back. IsDevice back.1 → W.faults inner < W.faults back.0) }
     {
         match format {

@@ -53,7 +53,8 @@ abbrev pub IsSymbol : ℕ → Type 0
 IsSymbol c = (43 ≤ c) × (c ≤ 122) × (c ≢ 45) × (c ≢ 61)
 
 symbol_passes : ℕ → Bool
-symbol_passes i = nat_le 43 (slice_index symbols i) && nat_le (slice_index symbols i) 122 && not (slice_index symbols i == 45) && not (slice_index symbols i == 61)
+symbol_passes i = nat_le 43 (slice_index symbols i) && nat_le (slice_index symbols i) 122 && not (slice_index symbols i == 45)
+    && not (slice_index symbols i == 61)
 
 all_pass : all_below symbol_passes 64 ≡ true
 unfolding symbol_passes
@@ -81,8 +82,18 @@ are_symbols (a ∷ b ∷ []) h =
 are_symbols (a ∷ b ∷ c ∷ m) h =
     let ha : a < 256 = h 0 in
     let hb : b < 256 = h 1 in
-    let hc : c < 256 = h 2 in
-    (IsSymbol_at (a / 4) (omega arith), (IsSymbol_at (a % 4 * 16 + b / 16) (omega arith), (IsSymbol_at (b % 16 * 4 + c / 64) (omega arith), (IsSymbol_at (c % 64) (omega arith), are_symbols m (λ i. h (suc (suc (suc i))))))))
+    let hc : c < 256 = h 2 in (
+      IsSymbol_at (a / 4) (omega arith),
+      (
+        IsSymbol_at (a % 4 * 16 + b / 16)
+            (omega arith),
+        (
+          IsSymbol_at (b % 16 * 4 + c / 64)
+              (omega arith),
+          (IsSymbol_at (c % 64) (omega arith), are_symbols m (λ i. h (suc (suc (suc i))))),
+        ),
+      ),
+    )
 
 pub columns_symbols : (m : List ℕ) → AreBytes m → AllByRecursion IsSymbol (columns m)
 unfolding columns

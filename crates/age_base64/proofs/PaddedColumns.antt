@@ -52,10 +52,12 @@ lacks_padding c (suc n) other = (λ e. other (sym e), lacks_padding c n other)
 -- a byte that neither a symbol nor padding is
 lacks_other : (c : ℕ) → c ≢ 61 → (m : List ℕ) → Lacks c (encode_symbols symbols m) → Lacks c (padded_columns m)
 unfolding padded_columns
-lacks_other c other m h = Lacks-append c (encode_symbols symbols m) (replicate (padding_len (length m)) 61) h (lacks_padding c (padding_len (length m)) other)
+lacks_other c other m h = Lacks-append c (encode_symbols symbols m) (replicate (padding_len (length m)) 61) h
+    (lacks_padding c (padding_len (length m)) other)
 
 pub Lacks_padded_columns : (c : ℕ) → c < 43 → (m : List ℕ) → AreBytes m → Lacks c (padded_columns m)
-Lacks_padded_columns c low m h = lacks_other c (λ e. omega arith) m (Lacks_columns c low (encode_symbols symbols m) (are_symbols m (bytes-by_index m h)))
+Lacks_padded_columns c low m h = lacks_other c (λ e. omega arith) m
+    (Lacks_columns c low (encode_symbols symbols m) (are_symbols m (bytes-by_index m h)))
 
 lacks_hyphen : (m : List ℕ) → AllByRecursion IsSymbol m → Lacks 45 m
 lacks_hyphen [] h = tt

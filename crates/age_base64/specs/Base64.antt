@@ -7,8 +7,8 @@ use Rattle.age_error.specs.Bytes.{AreBytes}
 abbrev pub symbols : List ℕ
 symbols = codes "ABCDEFGHIJKLMNOPQRSTUVWXYZabcdefghijklmnopqrstuvwxyz0123456789+/"
 
--- the base64 characters of bytes, or columns, as they stand in a header (61 is `=`, of which there are none here)
--- standard: canonical base64 of RFC 4648 section 4, without padding; the unused bits are zero, and characters in which they aren't are no base64 of any bytes
+-- the base64 of bytes, as it stands in a header; its characters are called columns. 61 is `=`, and `false` says that there is no padding
+-- standard: canonical base64 of RFC 4648 section 4, without padding: the bits that are left over at its end are zero
 unfoldable pub columns : List ℕ → List ℕ
 columns bytes = encode symbols 61 false bytes
 

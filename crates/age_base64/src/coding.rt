@@ -67,6 +67,7 @@ fn is_piece(engine: &GeneralPurpose, piece: &[u8]) -> bool
     let mut bytes = [0; 48];
     match engine.decode_slice_unchecked(piece, &mut bytes) {
         Ok(_) => {
+            // For the proof alone: these are bytes, each below 256.
             known_bytes(&bytes);
             true
         }

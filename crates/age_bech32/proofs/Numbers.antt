@@ -26,7 +26,8 @@ same_digits bits m n (x ∷ xs) [] l hx hy e = absurd (omega arith)
 same_digits bits m n (x ∷ xs) (y ∷ ys) l hx hy e =
     let rest : (m * 2 ^ bits + x ≡ n * 2 ^ bits + y) × (xs ≡ ys) = same_digits bits (m * 2 ^ bits + x) (n * 2 ^ bits + y) xs ys (omega arith)
     (All-tail (λ a. a < 2 ^ bits) x xs hx) (All-tail (λ a. a < 2 ^ bits) y ys hy) e in
-    let place : (m ≡ n) × (x ≡ y) = same_from_place m x n y (2 ^ bits) (All-head (λ a. a < 2 ^ bits) x xs hx) (All-head (λ a. a < 2 ^ bits) y ys hy) rest.0 in
+    let place : (m ≡ n) × (x ≡ y) = same_from_place m x n y (2 ^ bits) (All-head (λ a. a < 2 ^ bits) x xs hx)
+    (All-head (λ a. a < 2 ^ bits) y ys hy) rest.0 in
     (place.0, cc (place.1, rest.1))
 
 pub length-digits : (bits count n : ℕ) → length (digits bits count n) ≡ count
@@ -40,7 +41,8 @@ pub digits-fit : (bits count n : ℕ) → All (λ x. x < 2 ^ bits) (digits bits 
 unfolding digits
 digits-fit bits zero n = All-nil (λ x. x < 2 ^ bits)
 digits-fit bits (suc count) n =
-    All-push (λ x. x < 2 ^ bits) (digits bits count (n / 2 ^ bits)) (n % 2 ^ bits) (digits-fit bits count (n / 2 ^ bits)) (mod_below n (2 ^ bits) (pow_pos bits))
+    All-push (λ x. x < 2 ^ bits) (digits bits count (n / 2 ^ bits)) (n % 2 ^ bits) (digits-fit bits count (n / 2 ^ bits))
+    (mod_below n (2 ^ bits) (pow_pos bits))
 
 one_more : (bits count : ℕ) → bits * suc count ≡ bits * count + bits
 one_more bits count = omega arith
@@ -57,7 +59,8 @@ unfolding digits number_after
 number-digits bits zero n h = below_one n (subst (λ k. n < 2 ^ k) (nothing_more bits) h)
 number-digits bits (suc count) n h =
     let below : n / 2 ^ bits < 2 ^ (bits * count) = shr_below n (bits * count) bits (subst (λ k. n < 2 ^ k) (one_more bits count) h) in
-    number-push bits 0 (digits bits count (n / 2 ^ bits)) (n % 2 ^ bits) ∙ ap (λ m. m * 2 ^ bits + n % 2 ^ bits) (number-digits bits count (n / 2 ^ bits) below)
+    number-push bits 0 (digits bits count (n / 2 ^ bits)) (n % 2 ^ bits)
+    ∙ ap (λ m. m * 2 ^ bits + n % 2 ^ bits) (number-digits bits count (n / 2 ^ bits) below)
     ∙ shr_split n bits
 
 next_below : (n front x p q : ℕ) → x < p → n < (front * p + x + 1) * q → n < (front + 1) * (q * p)
@@ -69,7 +72,8 @@ after-below bits front [] fits = rw (nothing_more bits) (omega arith)
 after-below bits front (x ∷ xs) fits =
     let rest = after-below bits (front * 2 ^ bits + x) xs (All-tail (λ a. a < 2 ^ bits) x xs fits) in
     rw (one_more bits (length xs), pow-add 2 (bits * length xs) bits)
-    (next_below (number_after bits (front * 2 ^ bits + x) xs) front x (2 ^ bits) (2 ^ (bits * length xs)) (All-head (λ a. a < 2 ^ bits) x xs fits) rest)
+    (next_below (number_after bits (front * 2 ^ bits + x) xs) front x (2 ^ bits) (2 ^ (bits * length xs))
+    (All-head (λ a. a < 2 ^ bits) x xs fits) rest)
 
 pub number-below : (bits : ℕ) (xs : List ℕ) → All (λ x. x < 2 ^ bits) xs → number bits xs < 2 ^ (bits * length xs)
 number-below bits xs fits = let h = after-below bits 0 xs fits in omega arith
@@ -77,5 +81,6 @@ number-below bits xs fits = let h = after-below bits 0 xs fits in omega arith
 -- digits are those of the number that they write
 pub digits-number : (bits : ℕ) (xs : List ℕ) → All (λ x. x < 2 ^ bits) xs → digits bits (length xs) (number bits xs) ≡ xs
 digits-number bits xs fits =
-    (same_digits bits 0 0 (digits bits (length xs) (number bits xs)) xs (length-digits bits (length xs) (number bits xs)) (digits-fit bits (length xs) (number bits xs)) fits
+    (same_digits bits 0 0 (digits bits (length xs) (number bits xs)) xs (length-digits bits (length xs) (number bits xs))
+    (digits-fit bits (length xs) (number bits xs)) fits
     (number-digits bits (length xs) (number bits xs) (number-below bits xs fits))).1

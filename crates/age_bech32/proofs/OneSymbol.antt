@@ -45,7 +45,8 @@ step-back a b v ha hb e =
     let gb = generated (b / 2 ^ 25) in
     let la = bit_xor (a % 2 ^ 25 * 2 ^ 5) v in
     let lb = bit_xor (b % 2 ^ 25 * 2 ^ 5) v in
-    let low : bit_xor (la % 2 ^ 5) (ga % 2 ^ 5) ≡ bit_xor (lb % 2 ^ 5) (gb % 2 ^ 5) = sym (xor_mod la ga 5) ∙ ap (λ x. x % 2 ^ 5) e ∙ xor_mod lb gb 5 in
+    let low : bit_xor (la % 2 ^ 5) (ga % 2 ^ 5) ≡ bit_xor (lb % 2 ^ 5) (gb % 2 ^ 5) =
+    sym (xor_mod la ga 5) ∙ ap (λ x. x % 2 ^ 5) e ∙ xor_mod lb gb 5 in
     let same : bit_xor (lb % 2 ^ 5) (ga % 2 ^ 5) ≡ bit_xor (lb % 2 ^ 5) (gb % 2 ^ 5) =
     ap (λ x. bit_xor x (ga % 2 ^ 5)) (shifted_low (b % 2 ^ 25) v ∙ sym (shifted_low (a % 2 ^ 25) v)) ∙ low in
     let top : a / 2 ^ 25 ≡ b / 2 ^ 25 =
@@ -63,7 +64,8 @@ after-back a b (v ∷ vs) ha hb fits e =
 value-back : (s v w : ℕ) → step s v ≡ step s w → v ≡ w
 unfolding step
 value-back s v w e =
-    xor-cancel (s % 2 ^ 25 * 2 ^ 5) v w (xor-cancel_right (bit_xor (s % 2 ^ 25 * 2 ^ 5) v) (bit_xor (s % 2 ^ 25 * 2 ^ 5) w) (generated (s / 2 ^ 25)) e)
+    xor-cancel (s % 2 ^ 25 * 2 ^ 5) v w (xor-cancel_right (bit_xor (s % 2 ^ 25 * 2 ^ 5) v) (bit_xor (s % 2 ^ 25 * 2 ^ 5) w)
+    (generated (s / 2 ^ 25)) e)
 
 -- texts with one remainder that differ in one symbol at most are the same in lower case
 pub same_symbol : (s c d : ℕ) (front back vs ws : List ℕ) → All (λ v. v < 2 ^ 5) vs → All (λ w. w < 2 ^ 5) ws
@@ -82,7 +84,8 @@ same_symbol s c d [] back (v ∷ vs) (w ∷ ws) hv hw e f r =
     let cv : to_ascii_lowercase c ≡ symbol v = cc in
     let dw : to_ascii_lowercase d ≡ symbol w = cc in
     let rest : vs ≡ ws = same_values vs ws tv tw (sym ev ∙ ew) in
-    let same : step s v ≡ step s w = after-back (step s v) (step s w) ws (step-below s v fv) (step-below s w fw) tw (ap (remainder_after (step s v)) (sym rest) ∙ r) in
+    let same : step s v ≡ step s w = after-back (step s v) (step s w) ws (step-below s v fv) (step-below s w fw) tw
+    (ap (remainder_after (step s v)) (sym rest) ∙ r) in
     cv ∙ ap symbol (value-back s v w same) ∙ sym dw
 same_symbol s c d (m ∷ front) back [] ws hv hw e f r = cc
 same_symbol s c d (m ∷ front) back (v ∷ vs) [] hv hw e f r = cc

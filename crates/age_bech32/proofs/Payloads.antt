@@ -32,7 +32,8 @@ module _ (prefix rest values : List ℕ) (spelled : lowered rest ≡ map symbol 
       let same : length p.groups ≡ mid = omega arith in
       sym (take-append_seam p.groups p.check) ∙ ap (λ k. take k (p.groups ++ p.check)) same ∙ ap (take mid) (values_are bytes p)
 
-  made : (mid : ℕ) → mid + 6 ≡ length values → remainder (expanded prefix ++ values) ≡ 1 → (bytes : List ℕ) → IsRegrouped bytes (take mid values) → IsPayload prefix rest bytes
+  made : (mid : ℕ) → mid + 6 ≡ length values → remainder (expanded prefix ++ values) ≡ 1 → (bytes : List ℕ) → IsRegrouped bytes (take mid values)
+      → IsPayload prefix rest bytes
   made mid is closed bytes regrouped =
       let all : take mid values ++ drop mid values ≡ values = take-append-drop mid values in
       record {
@@ -42,7 +43,8 @@ module _ (prefix rest values : List ℕ) (spelled : lowered rest ≡ map symbol 
         values = subst (All (λ v. v < 2 ^ 5)) (sym all) fits;
         regrouped = regrouped;
         six = length-drop mid values ∙ (omega arith);
-        checked = ap remainder (append_assoc (expanded prefix) (take mid values) (drop mid values)) ∙ ap (λ v. remainder (expanded prefix ++ v)) all ∙ closed;
+        checked = ap remainder (append_assoc (expanded prefix) (take mid values) (drop mid values))
+            ∙ ap (λ v. remainder (expanded prefix ++ v)) all ∙ closed;
       }
 
 pub no_symbols : (prefix rest : List ℕ) → (AreSymbols rest → ⊥) → IsNoPayload prefix rest
@@ -52,7 +54,8 @@ no_symbols prefix rest none bytes p = none (spells rest (p.groups ++ p.check) p.
 module _ (prefix rest : List ℕ) (are : AreSymbols rest) where
   pub wrong_check : remainder_after (remainder (expanded prefix)) (values_of rest) ≢ 1 → IsNoPayload prefix rest
   wrong_check wrong =
-      wrong_remainder prefix rest (values_of rest) (spelled rest are) (values-fit rest are) (λ e. wrong (sym (after-append 1 (expanded prefix) (values_of rest)) ∙ e))
+      wrong_remainder prefix rest (values_of rest) (spelled rest are) (values-fit rest are)
+      (λ e. wrong (sym (after-append 1 (expanded prefix) (values_of rest)) ∙ e))
 
   module _ (mid : ℕ) (is : mid + 6 ≡ length rest) where
     size_of : mid + 6 ≡ length (values_of rest)
@@ -63,13 +66,15 @@ module _ (prefix rest : List ℕ) (are : AreSymbols rest) where
 
     pub no_groups : AreNoGroups (values_of (take mid rest)) → IsNoPayload prefix rest
     no_groups none bytes p =
-        none bytes (subst (IsRegrouped bytes) (groups_are prefix rest (values_of rest) (spelled rest are) (values-fit rest are) mid size_of bytes p ∙ taken) p.regrouped)
+        none bytes (subst (IsRegrouped bytes) (groups_are prefix rest (values_of rest) (spelled rest are)
+        (values-fit rest are) mid size_of bytes p ∙ taken) p.regrouped)
 
     pub read : remainder_after (remainder (expanded prefix)) (values_of rest) ≡ 1 → (bytes : List ℕ) → IsRegrouped bytes (values_of (take mid rest))
         → AreSymbols (take mid rest) × IsPayload prefix rest bytes
     read closed bytes regrouped = (
       All-take (λ b. value_of b < 2 ^ 5) mid rest are,
-      made prefix rest (values_of rest) (spelled rest are) (values-fit rest are) mid size_of (after-append 1 (expanded prefix) (values_of rest) ∙ closed) bytes
+      made prefix rest (values_of rest) (spelled rest are) (values-fit rest are) mid size_of
+          (after-append 1 (expanded prefix) (values_of rest) ∙ closed) bytes
           (subst (IsRegrouped bytes) (sym taken) regrouped),
     )
 
@@ -84,7 +89,8 @@ one_reading prefix rest a b p q =
     let six' : length q.check ≡ 6 = q.six in
     let sizes : length p.groups ≡ length q.groups = omega arith in
     let same : p.groups ≡ q.groups =
-    sym (take-append_seam p.groups p.check) ∙ ap (λ k. take k (p.groups ++ p.check)) sizes ∙ ap (take (length q.groups)) all ∙ take-append_seam q.groups q.check in
+    sym (take-append_seam p.groups p.check) ∙ ap (λ k. take k (p.groups ++ p.check)) sizes ∙ ap (take (length q.groups)) all
+    ∙ take-append_seam q.groups q.check in
     same_bytes q.groups a b (subst (IsRegrouped a) same p.regrouped) q.regrouped
 
 -- a prefix and bytes have one list of values
@@ -93,6 +99,8 @@ one_spelling prefix rest other bytes p q =
     let groups : p.groups ≡ q.groups = same_groups bytes p.groups q.groups p.regrouped q.regrouped in
     let s = remainder (expanded prefix ++ p.groups) in
     let a : remainder_after s p.check ≡ 1 = sym (after-append 1 (expanded prefix ++ p.groups) p.check) ∙ p.checked in
-    let b : remainder_after s q.check ≡ 1 = ap (λ g. remainder_after (remainder (expanded prefix ++ g)) q.check) groups ∙ sym (after-append 1 (expanded prefix ++ q.groups) q.check) ∙ q.checked in
-    let check : p.check ≡ q.check = one_check s p.check q.check p.six q.six (fits_right p.groups p.check p.values) (fits_right q.groups q.check q.values) (a ∙ sym b) in
+    let b : remainder_after s q.check ≡ 1 = ap (λ g. remainder_after (remainder (expanded prefix ++ g)) q.check) groups
+    ∙ sym (after-append 1 (expanded prefix ++ q.groups) q.check) ∙ q.checked in
+    let check : p.check ≡ q.check = one_check s p.check q.check p.six q.six (fits_right p.groups p.check p.values)
+    (fits_right q.groups q.check q.values) (a ∙ sym b) in
     p.spelled ∙ ap (λ g. map symbol (g ++ p.check)) groups ∙ ap (λ c. map symbol (q.groups ++ c)) check ∙ sym q.spelled

@@ -63,13 +63,15 @@ given from to xs out i full count held is r =
     }
 
 -- what was joined, and pushed
-pub joined_state : (from to : ℕ) (xs out : List ℕ) (i count held joined : ℕ) → i < length xs → get_or xs i 0 < 2 ^ from → Regrouping from to xs out i count held
+pub joined_state : (from to : ℕ) (xs out : List ℕ) (i count held joined : ℕ) → i < length xs → get_or xs i 0 < 2 ^ from
+    → Regrouping from to xs out i count held
     → joined ≡ held * 2 ^ from + get_or xs i 0 → Regrouping from to xs out (i + 1) (count + from) joined
 joined_state from to xs out i count held joined lt fits r e =
     subst (λ h. Regrouping from to xs out (i + 1) (count + from) h) (sym e) (more from to xs out i count held lt fits r)
 
 -- the value of a symbol was joined
-pub joined_symbol : (from to : ℕ) (symbols out : List ℕ) (i count held joined value : ℕ) → i < length symbols → All (λ b. value_of b < 2 ^ from) symbols
+pub joined_symbol : (from to : ℕ) (symbols out : List ℕ) (i count held joined value : ℕ) → i < length symbols
+    → All (λ b. value_of b < 2 ^ from) symbols
     → value ≡ value_of (get_or symbols i 0) → Regrouping from to (values_of symbols) out i count held → joined ≡ held * 2 ^ from + value
     → Regrouping from to (values_of symbols) out (i + 1) (count + from) joined
 joined_symbol from to symbols out i count held joined value lt are is r e =
@@ -77,20 +79,24 @@ joined_symbol from to symbols out i count held joined value lt are is r e =
     joined_state from to (values_of symbols) out i count held joined (subst (λ n. i < n) (sym (values-size symbols)) lt)
     (subst (λ v. v < 2 ^ from) (sym at) (are i 0 lt)) r (e ∙ ap (λ v. held * 2 ^ from + v) (is ∙ sym at))
 
-pub given_fits : (from to : ℕ) (xs out : List ℕ) (i full count held : ℕ) → full ≡ count + to → Regrouping from to xs out i full held → held / 2 ^ count < 2 ^ to
+pub given_fits : (from to : ℕ) (xs out : List ℕ) (i full count held : ℕ) → full ≡ count + to → Regrouping from to xs out i full held
+    → held / 2 ^ count < 2 ^ to
 given_fits from to xs out i full count held is r =
     let e : full ≡ to + count = omega arith in
     shr_below held to count (subst (λ k. held < 2 ^ k) e r.below)
 
 -- the same in places that are written one after another
-pub gave : (from to : ℕ) (xs places new : List ℕ) (at i full count held rest : ℕ) → full ≡ count + to → at < length places → new ≡ set places at (held / 2 ^ count)
+pub gave : (from to : ℕ) (xs places new : List ℕ) (at i full count held rest : ℕ) → full ≡ count + to → at < length places
+    → new ≡ set places at (held / 2 ^ count)
     → rest ≡ held % 2 ^ count → Regrouping from to xs (take at places) i full held → Regrouping from to xs (take (at + 1) new) i count rest
 gave from to xs places new at i full count held rest is lt e f r =
     let out : take (at + 1) new ≡ take at places ++ (held / 2 ^ count) ∷ [] = ap (take (at + 1)) e ∙ take_more_set places at (held / 2 ^ count) lt in
-    subst (λ o. Regrouping from to xs o i count rest) (sym out) (subst (Regrouping from to xs (take at places ++ (held / 2 ^ count) ∷ []) i count) (sym f)
+    subst (λ o. Regrouping from to xs o i count rest) (sym out)
+    (subst (Regrouping from to xs (take at places ++ (held / 2 ^ count) ∷ []) i count) (sym f)
     (given from to xs (take at places) i full count held is r))
 
-pub placed : (from to : ℕ) (xs places places' : List ℕ) (at at' i count count' held held' : ℕ) → places' ≡ places → at' ≡ at → count' ≡ count → held' ≡ held
+pub placed : (from to : ℕ) (xs places places' : List ℕ) (at at' i count count' held held' : ℕ) → places' ≡ places → at' ≡ at → count' ≡ count
+    → held' ≡ held
     → Regrouping from to xs (take at places) i count held → Regrouping from to xs (take at' places') i count' held'
 placed from to xs places places' at at' i count count' held held' e f g h r =
     let out : take at' places' ≡ take at places = ap (take at') e ∙ ap (λ k. take k places) f in
@@ -125,8 +131,10 @@ pub bytes-same : (groups out : List ℕ) (i count held : ℕ) → length groups 
 unfolding bytes_of_groups
 bytes-same groups out i count held end within few r =
     let all : i ≡ length groups = omega arith in
-    let sizes : (length out ≡ byte_count (length groups)) × (count ≡ 5 * length groups % 8) = left_over (length groups) (length out) count few (r.size ∙ ap (λ k. 5 * k) all) in
-    let n : number 8 out ≡ number 5 groups / 2 ^ count = sym (shr_high (number 8 out) count held r.below) ∙ ap (λ k. k / 2 ^ count) (ended 5 8 groups out i count held end r) in
+    let sizes : (length out ≡ byte_count (length groups)) × (count ≡ 5 * length groups % 8) =
+    left_over (length groups) (length out) count few (r.size ∙ ap (λ k. 5 * k) all) in
+    let n : number 8 out ≡ number 5 groups / 2 ^ count =
+    sym (shr_high (number 8 out) count held r.below) ∙ ap (λ k. k / 2 ^ count) (ended 5 8 groups out i count held end r) in
     sym (digits-number 8 out r.fits) ∙ ap (λ k. digits 8 k (number 8 out)) sizes.0 ∙ ap (digits 8 (byte_count (length groups))) n
     ∙ ap (λ k. digits 8 (byte_count (length groups)) (number 5 groups / 2 ^ k)) sizes.1
 
@@ -144,7 +152,8 @@ bytes-are groups fives few none =
     let unused = 5 * length groups % 8 in
     let count = byte_count (length groups) in
     let n = number 5 groups / 2 ^ unused in
-    let below : n < 2 ^ (8 * count) = shr_below (number 5 groups) (8 * count) unused (subst (λ k. number 5 groups < 2 ^ k) (split_of (length groups)) (number-below 5 groups fives)) in
+    let below : n < 2 ^ (8 * count) = shr_below (number 5 groups) (8 * count) unused
+    (subst (λ k. number 5 groups < 2 ^ k) (split_of (length groups)) (number-below 5 groups fives)) in
     record {
       unused = unused;
       few = few;
@@ -173,12 +182,14 @@ last_bits_of front last u few =
     let five : 5 - u + u ≡ 5 = omega arith in
     let pow : 2 ^ 5 ≡ 2 ^ (5 - u) * 2 ^ u = sym (ap (λ k. 2 ^ k) five) ∙ pow-add 2 (5 - u) u in
     let n = number 5 front in
-    ap (λ x. x % 2 ^ u) (number-push 5 0 front last ∙ parted n (2 ^ 5) (2 ^ (5 - u)) (2 ^ u) (last / 2 ^ u) (last % 2 ^ u) last pow (shr_split last u))
+    ap (λ x. x % 2 ^ u) (number-push 5 0 front last
+    ∙ parted n (2 ^ 5) (2 ^ (5 - u)) (2 ^ u) (last / 2 ^ u) (last % 2 ^ u) last pow (shr_split last u))
     ∙ mod_low (n * 2 ^ (5 - u) + last / 2 ^ u) u (last % 2 ^ u) (mod_below last (2 ^ u) (pow_pos u))
 
 last_unused : (groups : List ℕ) (mid u : ℕ) → mid + 1 ≡ length groups → u ≤ 4 → number 5 groups % 2 ^ u ≡ get_or groups mid 0 % 2 ^ u
 last_unused groups mid u is few =
-    let parts : groups ≡ take mid groups ++ get_or groups mid 0 ∷ [] = sym (taken groups (mid + 1) (omega arith)) ∙ take_more groups mid 0 (omega arith) in
+    let parts : groups ≡ take mid groups ++ get_or groups mid 0 ∷ [] =
+    sym (taken groups (mid + 1) (omega arith)) ∙ take_more groups mid 0 (omega arith) in
     ap (λ g. number 5 g % 2 ^ u) parts ∙ last_bits_of (take mid groups) (get_or groups mid 0) u few
 
 zero_mod : (u : ℕ) → 0 % 2 ^ u ≡ 0
@@ -200,13 +211,17 @@ by_last false groups fives few nothing some = λ bytes g. some refl (unused-is b
 
 -- what the last group says
 pub judged : (groups : List ℕ) (mid u rest : ℕ) → All (λ x. x < 2 ^ 5) groups → mid + 1 ≡ length groups → u ≡ 5 * length groups % 8 → u ≤ 4
-    → rest ≡ get_or groups mid 0 % 2 ^ u → MatchBool (rest == 0) (IsRegrouped (bytes_of_groups groups) groups) ((bytes : List ℕ) → IsRegrouped bytes groups → ⊥)
+    → rest ≡ get_or groups mid 0 % 2 ^ u → MatchBool (rest == 0) (IsRegrouped (bytes_of_groups groups) groups)
+    ((bytes : List ℕ) → IsRegrouped bytes groups → ⊥)
 judged groups mid u rest fives is unused few last =
-    let same : number 5 groups % 2 ^ (5 * length groups % 8) ≡ rest = ap (λ k. number 5 groups % 2 ^ k) (sym unused) ∙ last_unused groups mid u is few ∙ sym last in
+    let same : number 5 groups % 2 ^ (5 * length groups % 8) ≡ rest =
+    ap (λ k. number 5 groups % 2 ^ k) (sym unused) ∙ last_unused groups mid u is few ∙ sym last in
     by_last (rest == 0) groups fives (omega arith) (λ e. same ∙ eqb-true rest 0 e) (λ e z. eqb-false rest 0 e (sym same ∙ z))
 
-module _ (bytes out : List ℕ) (i count held : ℕ) (end : length bytes ≤ i) (within : i ≤ length bytes) (r : Regrouping 8 5 bytes out i count held) where
-  pub filled : 0 < count → count < 5 → All (λ x. x < 2 ^ 8) bytes → (last : ℕ) → last ≡ held * 2 ^ (5 - count) → (last < 2 ^ 5) × IsRegrouped bytes (out ++ last ∷ [])
+module _ (bytes out : List ℕ) (i count held : ℕ) (end : length bytes ≤ i) (within : i ≤ length bytes)
+    (r : Regrouping 8 5 bytes out i count held) where
+  pub filled : 0 < count → count < 5 → All (λ x. x < 2 ^ 8) bytes → (last : ℕ) → last ≡ held * 2 ^ (5 - count)
+      → (last < 2 ^ 5) × IsRegrouped bytes (out ++ last ∷ [])
   filled some few all last is =
       let mine : 5 * length out + count ≡ 8 * i = r.size in
       let unused = 5 - count in
@@ -262,7 +277,8 @@ same_bytes groups a b g h =
     let unused : g.unused ≡ h.unused = omega arith in
     let sizes : length a ≡ length b = omega arith in
     let bits : number 8 a * 2 ^ h.unused + 0 ≡ number 8 b * 2 ^ h.unused + 0 =
-    add_zero (number 8 a * 2 ^ h.unused) ∙ ap (λ u. number 8 a * 2 ^ u) (sym unused) ∙ sym g.bits ∙ h.bits ∙ sym (add_zero (number 8 b * 2 ^ h.unused)) in
+    add_zero (number 8 a * 2 ^ h.unused) ∙ ap (λ u. number 8 a * 2 ^ u) (sym unused) ∙ sym g.bits ∙ h.bits
+    ∙ sym (add_zero (number 8 b * 2 ^ h.unused)) in
     let same = same_from_place (number 8 a) 0 (number 8 b) 0 (2 ^ h.unused) (pow_pos h.unused) (pow_pos h.unused) bits in
     (same_digits 8 0 0 a b sizes g.eights h.eights same.0).1
 

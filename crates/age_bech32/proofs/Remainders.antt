@@ -31,19 +31,23 @@ bit_below n g h =
 pub generated-below : (top : ℕ) → generated top < 2 ^ 30
 unfolding generated
 generated-below top =
-    xor_lt 30 _ _ (xor_lt 30 _ _ (xor_lt 30 _ _ (xor_lt 30 _ _ (bit_below (top / 2 ^ 0) 0x3b6a57b2 (omega arith)) (bit_below (top / 2 ^ 1) 0x26508e6d (omega arith)))
-    (bit_below (top / 2 ^ 2) 0x1ea119fa (omega arith))) (bit_below (top / 2 ^ 3) 0x3d4233dd (omega arith))) (bit_below (top / 2 ^ 4) 0x2a1462b3 (omega arith))
+    xor_lt 30 _ _ (xor_lt 30 _ _ (xor_lt 30 _ _
+    (xor_lt 30 _ _ (bit_below (top / 2 ^ 0) 0x3b6a57b2 (omega arith)) (bit_below (top / 2 ^ 1) 0x26508e6d (omega arith)))
+    (bit_below (top / 2 ^ 2) 0x1ea119fa (omega arith))) (bit_below (top / 2 ^ 3) 0x3d4233dd (omega arith)))
+    (bit_below (top / 2 ^ 4) 0x2a1462b3 (omega arith))
 
 pub step-below : (sum value : ℕ) → value < 2 ^ 5 → step sum value < 2 ^ 30
 unfolding step
 step-below sum value h =
-    xor_lt 30 _ _ (xor_lt 30 _ _ (let low : sum % 2 ^ 25 * 2 ^ 5 < 2 ^ 30 = omega arith in low) (let fits : value < 2 ^ 30 = omega arith in fits)) (generated-below (sum / 2 ^ 25))
+    xor_lt 30 _ _ (xor_lt 30 _ _ (let low : sum % 2 ^ 25 * 2 ^ 5 < 2 ^ 30 = omega arith in low) (let fits : value < 2 ^ 30 = omega arith in fits))
+    (generated-below (sum / 2 ^ 25))
 
 -- what stands below 25 bits is only moved up
 pub step-linear : (s d v : ℕ) → d < 2 ^ 25 → v < 2 ^ 5 → step (bit_xor s d) v ≡ bit_xor (step s 0) (d * 2 ^ 5 + v)
 unfolding step
 step-linear s d v hd hv =
-    let low : bit_xor s d % 2 ^ 25 ≡ bit_xor (s % 2 ^ 25) d = xor_mod s d 25 ∙ ap (λ x. bit_xor (s % 2 ^ 25) x) (let e : d % 2 ^ 25 ≡ d = omega arith in e) in
+    let low : bit_xor s d % 2 ^ 25 ≡ bit_xor (s % 2 ^ 25) d =
+    xor_mod s d 25 ∙ ap (λ x. bit_xor (s % 2 ^ 25) x) (let e : d % 2 ^ 25 ≡ d = omega arith in e) in
     let top : bit_xor s d / 2 ^ 25 ≡ s / 2 ^ 25 =
     xor_shr s d 25 ∙ ap (λ x. bit_xor (s / 2 ^ 25) x) (let e : d / 2 ^ 25 ≡ 0 = omega arith in e) ∙ xor-zero (s / 2 ^ 25) in
     ap (λ x. bit_xor (bit_xor (x * 2 ^ 5) v) (generated (bit_xor s d / 2 ^ 25))) low
@@ -69,7 +73,8 @@ carried bits s d (c ∷ cs) few hd hc =
     ∙ carried (bits + 5) (step s 0) (d * 2 ^ 5 + c) cs (omega arith) moved (All-tail (λ x. x < 2 ^ 5) c cs hc)
 
 -- the sum of generators, as it is computed
-pub generated_is : (t : ℕ) → bit_xor (bit_xor (bit_xor (bit_xor (bit_and t 1 * 0x3b6a57b2) (bit_and (t / 2) 1 * 0x26508e6d)) (bit_and (t / 4) 1 * 0x1ea119fa))
+pub generated_is : (t : ℕ) → bit_xor (bit_xor
+    (bit_xor (bit_xor (bit_and t 1 * 0x3b6a57b2) (bit_and (t / 2) 1 * 0x26508e6d)) (bit_and (t / 4) 1 * 0x1ea119fa))
     (bit_and (t / 8) 1 * 0x3d4233dd)) (bit_and (t / 16) 1 * 0x2a1462b3) ≡ generated t
 unfolding generated
 generated_is t =
@@ -91,7 +96,8 @@ step_is sum value x g e f =
 
 -- the values that a prefix in lower case gives, one by one
 pub after-step_lowered : (f : ℕ → ℕ) (sum : ℕ) (xs : List ℕ) (i : ℕ) → i < length xs
-    → remainder_after (step sum (f (to_ascii_lowercase (get_or xs i 0)))) (map f (lowered (drop (i + 1) xs))) ≡ remainder_after sum (map f (lowered (drop i xs)))
+    → remainder_after (step sum (f (to_ascii_lowercase (get_or xs i 0)))) (map f (lowered (drop (i + 1) xs)))
+    ≡ remainder_after sum (map f (lowered (drop i xs)))
 unfolding remainder_after
 after-step_lowered f sum xs i h = rw (drop-cons xs i 0, add-one) refl
 
@@ -110,7 +116,8 @@ after-below sum (x ∷ xs) h fits =
     after-below (step sum x) xs (step-below sum x (All-head (λ y. y < 2 ^ 5) x xs fits)) (All-tail (λ y. y < 2 ^ 5) x xs fits)
 
 -- the remainder of a prefix is that of its high bits, a 0, and its low bits
-pub of_prefix : (prefix : List ℕ) → remainder_after (step (remainder_after 1 (map (λ b. b / 2 ^ 5) (lowered prefix))) 0) (map (λ b. b % 2 ^ 5) (lowered prefix))
+pub of_prefix : (prefix : List ℕ) → remainder_after (step (remainder_after 1 (map (λ b. b / 2 ^ 5) (lowered prefix))) 0)
+    (map (λ b. b % 2 ^ 5) (lowered prefix))
     ≡ remainder (expanded prefix)
 unfolding expanded remainder_after
 of_prefix prefix = sym (after-append 1 (map (λ b. b / 2 ^ 5) (lowered prefix)) (0 ∷ map (λ b. b % 2 ^ 5) (lowered prefix)))
@@ -138,7 +145,8 @@ closes s h =
 
 -- the six values, as they are computed
 pub six_is : (n : ℕ) → n < 2 ^ 30
-    → n / 33554432 ∷ bit_and (n / 1048576) 31 ∷ bit_and (n / 32768) 31 ∷ bit_and (n / 1024) 31 ∷ bit_and (n / 32) 31 ∷ bit_and n 31 ∷ [] ≡ digits 5 6 n
+    → n / 33554432 ∷ bit_and (n / 1048576) 31 ∷ bit_and (n / 32768) 31 ∷ bit_and (n / 1024) 31 ∷ bit_and (n / 32) 31 ∷ bit_and n 31 ∷ []
+    ≡ digits 5 6 n
 unfolding digits
 six_is n h =
     let e0 : n / 33554432 ≡ n / 2 ^ 5 / 2 ^ 5 / 2 ^ 5 / 2 ^ 5 / 2 ^ 5 % 2 ^ 5 = omega arith in
@@ -158,7 +166,8 @@ unfolding check_values
 check-fits prefix groups = digits-fit 5 6 (bit_xor (remainder (expanded prefix ++ groups ++ zeros)) 1)
 
 -- a prefix and groups, and then their check
-pub checked : (prefix groups : List ℕ) → remainder (expanded prefix ++ groups) < 2 ^ 30 → remainder (expanded prefix ++ groups ++ check_values prefix groups) ≡ 1
+pub checked : (prefix groups : List ℕ) → remainder (expanded prefix ++ groups) < 2 ^ 30
+    → remainder (expanded prefix ++ groups ++ check_values prefix groups) ≡ 1
 unfolding check_values
 checked prefix groups below =
     let front = expanded prefix ++ groups in
@@ -175,6 +184,7 @@ one_check s a b la lb ha hb e =
     let cb : remainder_after s b ≡ bit_xor (remainder_after s (map {A = ℕ} {B = ℕ} (λ c. 0) b)) (number 5 b) =
     ap (λ x. remainder_after x b) (sym (xor-zero s)) ∙ carried 0 s 0 b (omega arith) none hb in
     let same : map {A = ℕ} {B = ℕ} (λ c. 0) a ≡ map {A = ℕ} {B = ℕ} (λ c. 0) b = all_zeros a b (la ∙ sym lb) in
-    let both : bit_xor (remainder_after s (map {A = ℕ} {B = ℕ} (λ c. 0) b)) (number 5 a) ≡ bit_xor (remainder_after s (map {A = ℕ} {B = ℕ} (λ c. 0) b)) (number 5 b) =
+    let both : bit_xor (remainder_after s (map {A = ℕ} {B = ℕ} (λ c. 0) b)) (number 5 a)
+    ≡ bit_xor (remainder_after s (map {A = ℕ} {B = ℕ} (λ c. 0) b)) (number 5 b) =
     ap (λ z. bit_xor (remainder_after s z) (number 5 a)) (sym same) ∙ sym ca ∙ e ∙ cb in
     (same_digits 5 0 0 a b (la ∙ sym lb) ha hb (xor-cancel (remainder_after s (map {A = ℕ} {B = ℕ} (λ c. 0) b)) (number 5 a) (number 5 b) both)).1

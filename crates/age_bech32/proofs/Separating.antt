@@ -58,7 +58,8 @@ module _ (text : List ℕ) (i : ℕ) (last : IsLast text i) where
       let parts = parts_of prefix bytes b in
       subst (λ p. IsPayload p (drop (i + 1) text) bytes) parts.0 (subst (λ r. IsPayload prefix r bytes) parts.1 b.payload)
 
-  pub read : IsPrefix (take i text) → IsOneCase text → (bytes : List ℕ) → IsPayload (take i text) (drop (i + 1) text) bytes → IsBech32 text (take i text) bytes
+  pub read : IsPrefix (take i text) → IsOneCase text → (bytes : List ℕ) → IsPayload (take i text) (drop (i + 1) text) bytes
+      → IsBech32 text (take i text) bytes
   read good one bytes payload = record {
     rest = drop (i + 1) text;
     parts = sym (take-append-drop i text) ∙ ap (λ t. take i text ++ t) (drop-cons text i 0 last.within

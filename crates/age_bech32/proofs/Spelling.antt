@@ -10,7 +10,8 @@ use Rattle.age_bech32.specs.Symbols.{symbols, symbol, symbol_in, symbol_place, v
 -- what is tested of each value
 test : ℕ → Bool
 test v = (symbol_place (symbol v) symbols == v) && not (symbol v == 49) && (to_ascii_lowercase (symbol_in true v) == symbol v)
-    && (to_ascii_lowercase (symbol_in false v) == symbol v) && not (is_ascii_lowercase (symbol_in true v)) && not (is_ascii_uppercase (symbol_in false v))
+    && (to_ascii_lowercase (symbol_in false v) == symbol v) && not (is_ascii_lowercase (symbol_in true v))
+    && not (is_ascii_uppercase (symbol_in false v))
     && nat_lt (symbol_in true v) 128 && nat_lt (symbol_in false v) 128
 
 unfoldable pub all_below : (ℕ → Bool) → ℕ → Bool
@@ -158,6 +159,7 @@ pub written_more : (f : ℕ → ℕ) (old text new xs : List ℕ) (i ch : ℕ) �
     → new ≡ text ++ ch ∷ [] → new ≡ old ++ map f (take (i + 1) xs)
 written_more f old text new xs i ch lt is e n =
     let more : take (i + 1) xs ≡ take i xs ++ get_or xs i 0 ∷ [] = take_more xs i 0 lt in
-    let parts : map f (take i xs ++ get_or xs i 0 ∷ []) ≡ map f (take i xs) ++ f (get_or xs i 0) ∷ [] = map-append f (take i xs) (get_or xs i 0 ∷ []) in
+    let parts : map f (take i xs ++ get_or xs i 0 ∷ []) ≡ map f (take i xs) ++ f (get_or xs i 0) ∷ [] =
+    map-append f (take i xs) (get_or xs i 0 ∷ []) in
     n ∙ ap (λ t. t ++ ch ∷ []) is ∙ ap (λ x. (old ++ map f (take i xs)) ++ x ∷ []) e ∙ append_assoc old (map f (take i xs)) (f (get_or xs i 0) ∷ [])
     ∙ ap (λ t. old ++ t) (sym parts ∙ ap (map f) (sym more))

@@ -28,7 +28,8 @@ groups-are bytes all =
     let unused = 5 * count - 8 * length bytes in
     let room : (5 * count ≡ 8 * length bytes + unused) × (unused ≤ 4) = room_is (length bytes) in
     let n = number 8 bytes * 2 ^ unused in
-    let below : n < 2 ^ (5 * count) = subst (λ k. n < 2 ^ k) (sym room.0) (shl_below (number 8 bytes) (8 * length bytes) unused (number-below 8 bytes all)) in
+    let below : n < 2 ^ (5 * count) = subst (λ k. n < 2 ^ k) (sym room.0)
+    (shl_below (number 8 bytes) (8 * length bytes) unused (number-below 8 bytes all)) in
     record {
       unused = unused;
       few = room.1;
@@ -58,7 +59,8 @@ unfolding bech32_text
 length_text prefix bytes =
     let values = length-values prefix bytes in
     let f = symbol_in (has_upper prefix) in
-    let symbols : length (map f (values_of_bytes prefix bytes)) ≡ length (values_of_bytes prefix bytes) = length-map (values_of_bytes prefix bytes) f in
+    let symbols : length (map f (values_of_bytes prefix bytes)) ≡ length (values_of_bytes prefix bytes) =
+    length-map (values_of_bytes prefix bytes) f in
     length-append prefix (49 ∷ map f (values_of_bytes prefix bytes)) ∙ (omega arith)
 
 pub groups-fit : (bytes : List ℕ) → All (λ v. v < 2 ^ 5) (groups_of_bytes bytes)
@@ -67,11 +69,13 @@ groups-fit bytes = digits-fit 5 (group_count (length bytes)) (number 8 bytes * 2
 
 pub values-fit : (prefix bytes : List ℕ) → All (λ v. v < 2 ^ 5) (values_of_bytes prefix bytes)
 unfolding values_of_bytes
-values-fit prefix bytes = All-append (λ v. v < 2 ^ 5) (groups_of_bytes bytes) (check_values prefix (groups_of_bytes bytes)) (groups-fit bytes) (check-fits prefix (groups_of_bytes bytes))
+values-fit prefix bytes = All-append (λ v. v < 2 ^ 5) (groups_of_bytes bytes) (check_values prefix (groups_of_bytes bytes)) (groups-fit bytes)
+    (check-fits prefix (groups_of_bytes bytes))
 
 low_bits-fit : (p : List ℕ) → All (λ v. v < 2 ^ 5) (map (λ b. b % 2 ^ 5) (lowered p))
 low_bits-fit [] = All-nil (λ v. v < 2 ^ 5)
-low_bits-fit (x ∷ p) = All-cons (λ v. v < 2 ^ 5) (to_ascii_lowercase x % 2 ^ 5) (map (λ b. b % 2 ^ 5) (lowered p)) (let h : to_ascii_lowercase x % 2 ^ 5 < 2 ^ 5 = omega arith in h) (low_bits-fit p)
+low_bits-fit (x ∷ p) = All-cons (λ v. v < 2 ^ 5) (to_ascii_lowercase x % 2 ^ 5) (map (λ b. b % 2 ^ 5) (lowered p))
+    (let h : to_ascii_lowercase x % 2 ^ 5 < 2 ^ 5 = omega arith in h) (low_bits-fit p)
 
 lower_below : (x : ℕ) → x ≤ 126 → to_ascii_lowercase x < 2 ^ 8
 lower_below x h = grind (arith, nat_tests)
@@ -80,7 +84,8 @@ high_bits-fit : (p : List ℕ) → All (λ b. b ≤ 126) p → All (λ v. v < 2 
 high_bits-fit [] h = All-nil (λ v. v < 2 ^ 5)
 high_bits-fit (x ∷ p) h =
     let byte : to_ascii_lowercase x < 2 ^ 8 = lower_below x (All-head (λ b. b ≤ 126) x p h) in
-    All-cons (λ v. v < 2 ^ 5) (to_ascii_lowercase x / 2 ^ 5) (map (λ b. b / 2 ^ 5) (lowered p)) (let f : to_ascii_lowercase x / 2 ^ 5 < 2 ^ 5 = omega arith in f)
+    All-cons (λ v. v < 2 ^ 5) (to_ascii_lowercase x / 2 ^ 5) (map (λ b. b / 2 ^ 5) (lowered p))
+    (let f : to_ascii_lowercase x / 2 ^ 5 < 2 ^ 5 = omega arith in f)
     (high_bits-fit p (All-tail (λ b. b ≤ 126) x p h))
 
 expanded-fit : (p : List ℕ) → All (λ b. b ≤ 126) p → All (λ v. v < 2 ^ 5) (expanded p)
@@ -92,12 +97,14 @@ expanded-fit p h =
 none_lower : (vs : List ℕ) → All (λ v. v < 2 ^ 5) vs → has_lower (map (symbol_in true) vs) ≡ false
 none_lower [] h = refl
 none_lower (v ∷ vs) h =
-    ap (λ b. b || has_lower (map (symbol_in true) vs)) (symbol-is v (All-head (λ x. x < 2 ^ 5) v vs h)).no_lower ∙ none_lower vs (All-tail (λ x. x < 2 ^ 5) v vs h)
+    ap (λ b. b || has_lower (map (symbol_in true) vs)) (symbol-is v (All-head (λ x. x < 2 ^ 5) v vs h)).no_lower
+    ∙ none_lower vs (All-tail (λ x. x < 2 ^ 5) v vs h)
 
 none_upper : (vs : List ℕ) → All (λ v. v < 2 ^ 5) vs → has_upper (map (symbol_in false) vs) ≡ false
 none_upper [] h = refl
 none_upper (v ∷ vs) h =
-    ap (λ b. b || has_upper (map (symbol_in false) vs)) (symbol-is v (All-head (λ x. x < 2 ^ 5) v vs h)).no_upper ∙ none_upper vs (All-tail (λ x. x < 2 ^ 5) v vs h)
+    ap (λ b. b || has_upper (map (symbol_in false) vs)) (symbol-is v (All-head (λ x. x < 2 ^ 5) v vs h)).no_upper
+    ∙ none_upper vs (All-tail (λ x. x < 2 ^ 5) v vs h)
 
 both_false : (test : ℕ → Bool) (prefix rest : List ℕ) → list_any test prefix ≡ false → test 49 ≡ false → list_any test rest ≡ false
     → list_any test (prefix ++ 49 ∷ rest) ≡ false
@@ -108,7 +115,8 @@ one_of : (upper : Bool) (text : List ℕ) → IsInCase upper text → IsOneCase 
 one_of true text h = inr h
 one_of false text h = inl h
 
-kept : (upper : Bool) (prefix vs : List ℕ) → All (λ v. v < 2 ^ 5) vs → IsInCase upper prefix → IsInCase upper (prefix ++ 49 ∷ map (symbol_in upper) vs)
+kept : (upper : Bool) (prefix vs : List ℕ) → All (λ v. v < 2 ^ 5) vs → IsInCase upper prefix
+    → IsInCase upper (prefix ++ 49 ∷ map (symbol_in upper) vs)
 kept true prefix vs all h = both_false is_ascii_lowercase prefix (map (symbol_in true) vs) h refl (none_lower vs all)
 kept false prefix vs all h = both_false is_ascii_uppercase prefix (map (symbol_in false) vs) h refl (none_upper vs all)
 

@@ -28,11 +28,13 @@ pub xor-moved : (a d v : ℕ) → v < 2 ^ 5 → bit_xor (bit_xor a d * 2 ^ 5) v 
 xor-moved a d v h =
     let none : 0 < 2 ^ 5 = omega arith in
     let both : bit_xor (a * 2 ^ 5 + 0) (d * 2 ^ 5 + v) ≡ bit_xor a d * 2 ^ 5 + bit_xor 0 v = xor_block 5 a d 0 v none h in
-    let one : bit_xor (bit_xor a d * 2 ^ 5 + 0) (0 * 2 ^ 5 + v) ≡ bit_xor (bit_xor a d) 0 * 2 ^ 5 + bit_xor 0 v = xor_block 5 (bit_xor a d) 0 0 v none h in
+    let one : bit_xor (bit_xor a d * 2 ^ 5 + 0) (0 * 2 ^ 5 + v) ≡ bit_xor (bit_xor a d) 0 * 2 ^ 5 + bit_xor 0 v =
+    xor_block 5 (bit_xor a d) 0 0 v none h in
     let z1 : bit_xor a d * 2 ^ 5 + 0 ≡ bit_xor a d * 2 ^ 5 = omega arith in
     let z2 : 0 * 2 ^ 5 + v ≡ v = omega arith in
     let z3 : a * 2 ^ 5 + 0 ≡ a * 2 ^ 5 = omega arith in
-    ap (λ x. bit_xor x v) (sym z1) ∙ ap (λ x. bit_xor (bit_xor a d * 2 ^ 5 + 0) x) (sym z2) ∙ one ∙ ap (λ x. x * 2 ^ 5 + bit_xor 0 v) (xor-zero (bit_xor a d))
+    ap (λ x. bit_xor x v) (sym z1) ∙ ap (λ x. bit_xor (bit_xor a d * 2 ^ 5 + 0) x) (sym z2) ∙ one
+    ∙ ap (λ x. x * 2 ^ 5 + bit_xor 0 v) (xor-zero (bit_xor a d))
     ∙ sym both ∙ ap (λ x. bit_xor x (d * 2 ^ 5 + v)) z3
 
 pub xor-swap : (a g e : ℕ) → bit_xor (bit_xor a e) g ≡ bit_xor (bit_xor a g) e

@@ -1,5 +1,5 @@
 //! The remainder of the check (BIP 173, "Checksum").
-ghost use Rattle.std.specs.Prelude.{◌≡◌, ◌<◌, ◌/◌, ◌%◌, ◌^◌, ◌++◌, All, MatchOption, length, map};
+ghost use Rattle.std.specs.Prelude.{◌≡◌, ◌<◌, ◌/◌, ◌%◌, ◌^◌, All, MatchOption, length, map};
 ghost use Rattle.age_bech32.specs.Symbols.{AreSymbols, lowered, values_of};
 ghost use Rattle.age_bech32.specs.Remainder.{expanded, generated, remainder, remainder_after, step};
 ghost use Rattle.age_bech32.specs.Written.{check_values};

@@ -2,7 +2,7 @@
 ghost use Rattle.std.specs.Prelude.{◌≡◌, ◌+◌, ◌*◌, ◌/◌, ◌%◌, ◌^◌, ◌<◌, ◌≤◌, MatchBool, length, slice_set};
 ghost use Rattle.age_bech32.specs.Groups.{IsRegrouped, byte_count, bytes_of_groups, group_count, groups_of_bytes};
 ghost use Rattle.age_bech32.specs.Refusals.{AreNoGroups};
-ghost use Rattle.age_bech32.specs.Symbols.{AreSymbols, value_of, values_of};
+ghost use Rattle.age_bech32.specs.Symbols.{AreSymbols, values_of};
 
 use crate::symbols::known_value;
 

@@ -1,5 +1,5 @@
 //! Prefixes and the separator (BIP 173, "Bech32").
-ghost use Rattle.std.specs.Prelude.{◌≡◌, ◌≢◌, ◌+◌, ◌<◌, ◌≤◌, All, MatchBool, MatchOption, length, slice_index};
+ghost use Rattle.std.specs.Prelude.{◌≡◌, ◌≢◌, ◌+◌, ◌<◌, MatchBool, MatchOption, length, slice_index};
 ghost use Rattle.std.specs.List.{AllWithin};
 ghost use Rattle.age_bech32.specs.Bech32.{IsPrefix};
 

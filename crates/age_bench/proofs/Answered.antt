@@ -22,17 +22,20 @@ module _ {S X A : Type 0} (asks : S → X → Option A → Type 0) where
 
   -- of a list of one
   pub first_of_one : (one : S) (xs : List X) (answer : Option A) (after : List S)
-      → FirstThatAnswers (λ s own then. Unwraps (FirstOf (Steady asks)) s xs own then) (one ∷ []) answer after → FirstOf (Steady asks) one xs answer one
+      → FirstThatAnswers (λ s own then. Unwraps (FirstOf (Steady asks)) s xs own then) (one ∷ []) answer after
+      → FirstOf (Steady asks) one xs answer one
   first_of_one one xs None [] h = absurd h
   first_of_one one xs None (next ∷ after) h = either_way asks one xs None next h.0
   first_of_one one xs (Some a) after d =
-      subst (λ s. FirstOf (Steady asks) s xs (Some a) s) (decider one d.passed d.later d.decider d.all_before) (either_way asks d.decider xs (Some a) d.decider_after d.answers)
+      subst (λ s. FirstOf (Steady asks) s xs (Some a) s) (decider one d.passed d.later d.decider d.all_before)
+      (either_way asks d.decider xs (Some a) d.decider_after d.answers)
 
 module _ {S T X A : Type 0} (asks : S → X → Option A → Type 0) (others : T → X → Option A → Type 0) (one : S) (other : T)
     (same : (x : X) (answer : Option A) → asks one x answer → others other x answer) where
   next_as : (xs : List X) (first : Option A) (between : S) (answer : Option A) → between ≡ one
       → (FirstOf (Steady asks) one xs answer one → FirstOf (Steady others) other xs answer other)
-      → UnlessAnswered (λ s. FirstOf (Steady asks) s xs) first between answer one → UnlessAnswered (λ t. FirstOf (Steady others) t xs) first other answer other
+      → UnlessAnswered (λ s. FirstOf (Steady asks) s xs) first between answer one
+      → UnlessAnswered (λ t. FirstOf (Steady others) t xs) first other answer other
   next_as xs None between answer is step h = step (subst (λ s. FirstOf (Steady asks) s xs answer one) is h)
   next_as xs (Some a) between answer is step h = (h.0, refl)
 

@@ -33,7 +33,8 @@ enough_by : (enough : Bool) (n : ℕ) (draws bytes : List ℕ) → Path (Option 
 enough_by true n draws bytes is = (refl, sym (some_same _ _ is), refl)
 enough_by false n draws bytes is = absurd (Prim.cc)
 
-pub were_enough : (n : ℕ) (draws bytes : List ℕ) → taken n draws ≡ Some bytes → (n ≤ length draws) × (bytes ≡ take n draws) × (left_after n draws ≡ drop n draws)
+pub were_enough : (n : ℕ) (draws bytes : List ℕ) → taken n draws ≡ Some bytes
+    → (n ≤ length draws) × (bytes ≡ take n draws) × (left_after n draws ≡ drop n draws)
 were_enough n draws bytes is =
     let (enough, same, left) = enough_by (nat_le n (length draws)) n draws bytes is in
     (leb-true n (length draws) enough, same, left)

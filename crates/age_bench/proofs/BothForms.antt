@@ -60,7 +60,8 @@ body_bytes body h = lines_bytes _ 64 (columns body) (columns_bytes body h)
 
 stanza_bytes : (s : StanzaValue) → list_all (λ x. nat_lt x 256) (first_line s) ≡ true → AreBytes s.body → AreBytes (stanza_text s)
 unfolding stanza_text
-stanza_bytes s first body = joined_bytes (line (first_line s)) (body_text s.body) (line_bytes (first_line s) (fixed (first_line s) first)) (body_bytes s.body body)
+stanza_bytes s first body = joined_bytes (line (first_line s)) (body_text s.body) (line_bytes (first_line s) (fixed (first_line s) first))
+    (body_bytes s.body body)
 
 bench_stanza_bytes : (file_key : List ℕ) → AreBytes file_key → AreBytes (stanza_text (bench_stanza file_key))
 unfolding first_line
@@ -75,7 +76,8 @@ unfolding header_text mac_line
 header_bytes file_key mac k m =
     let stanzas = joined_bytes (stanza_text (bench_stanza file_key)) (stanza_text bench_grease ++ []) (bench_stanza_bytes file_key k)
     (joined_bytes (stanza_text bench_grease) [] grease_bytes (fixed [] refl)) in
-    let last = line_bytes (codes "--- " ++ columns mac) (joined_bytes (codes "--- ") (columns mac) (fixed (codes "--- ") refl) (columns_bytes mac m)) in
+    let last = line_bytes (codes "--- " ++ columns mac)
+    (joined_bytes (codes "--- ") (columns mac) (fixed (codes "--- ") refl) (columns_bytes mac m)) in
     joined_bytes (line version_line) _ (fixed (line version_line) refl) (joined_bytes _ (line (codes "--- " ++ columns mac)) stanzas last)
 
 bench_file_bytes : PayloadLength bench_seal → (draws plain : List ℕ) → AreBytes draws → AreBytes plain → AreBytes (bench_file draws plain)
@@ -132,5 +134,6 @@ module _ (armored : (bytes : List ℕ) → AreBytes bytes → Carries (armor byt
   -- so what is read from either form is true of the file itself
   pub gives_back : ((text bytes others : List ℕ) → Carries text bytes → Carries text others → bytes ≡ others) → IsAlone → IsGivenBack
   gives_back one alone format draws plain bytes file_key stanzas given b long p carries holds f =
-      let is : bytes ≡ bench_file draws plain = one (text_of format (bench_file draws plain)) bytes (bench_file draws plain) carries (is_carried format draws plain b long p) in
+      let is : bytes ≡ bench_file draws plain =
+      one (text_of format (bench_file draws plain)) bytes (bench_file draws plain) carries (is_carried format draws plain b long p) in
       alone draws plain file_key stanzas given b long p holds (subst (λ x. IsFileOf bench_seal file_key stanzas given x) is f)

@@ -12,10 +12,6 @@ use Rattle.age_bench.specs.Command.{byte_of, hex_bytes, key_word}
 abbrev pub prepended : List ℕ → Option (List ℕ) → Option (List ℕ)
 prepended done rest = option_map (λ bytes. done ++ bytes) rest
 
-pub prepended-nil : (o : Option (List ℕ)) → o ≡ prepended [] o
-prepended-nil None = refl
-prepended-nil (Some xs) = refl
-
 prepended-push : (done : List ℕ) (x : ℕ) (o : Option (List ℕ))
     → prepended done (option_map (λ bytes. x ∷ bytes) o) ≡ prepended (done ++ x ∷ []) o
 prepended-push done x None = refl
@@ -38,10 +34,6 @@ two_more : (text : List ℕ) (n : ℕ) → n + 1 < length text
     → drop n text ≡ get_or text n 0 ∷ get_or text (n + 1) 0 ∷ drop (n + 2) text
 two_more text n h = rw (drop_more text n 0 (omega arith), drop_more text (n + 1) 0 h, add_assoc) refl
 
-pub bad_byte : (text done : List ℕ) (n : ℕ) → n + 1 < length text → byte_of (get_or text n 0) (get_or text (n + 1) 0) ≡ None
-    → hex_bytes text ≡ prepended done (hex_bytes (drop n text)) → hex_bytes text ≡ None
-bad_byte text done n h bad e = rw (two_more text n h, bad) at e
-
 pub byte_more : (text done : List ℕ) (n byte : ℕ) → n + 1 < length text → byte_of (get_or text n 0) (get_or text (n + 1) 0) ≡ Some byte
     → hex_bytes text ≡ prepended done (hex_bytes (drop n text)) → hex_bytes text ≡ prepended (done ++ byte ∷ []) (hex_bytes (drop (n + 2) text))
 byte_more text done n byte h good e =
@@ -50,7 +42,8 @@ byte_more text done n byte h good e =
     rw (← prepended-push done byte (hex_bytes (drop (n + 2) text))) more
 
 -- the text is written to its end
-pub text_done : (text done : List ℕ) (n : ℕ) → length text ≤ n → hex_bytes text ≡ prepended done (hex_bytes (drop n text)) → Some done ≡ hex_bytes text
+pub text_done : (text done : List ℕ) (n : ℕ) → length text ≤ n → hex_bytes text ≡ prepended done (hex_bytes (drop n text))
+    → Some done ≡ hex_bytes text
 text_done text done n past e = rw (drop_of_length-le text past, append-nil) at (sym e)
 
 counted : (byte : Option ℕ) (rest : Option (List ℕ)) (done : List ℕ) → option_and_then (λ b. option_map (λ bytes. b ∷ bytes) rest) byte ≡ Some done

@@ -23,14 +23,16 @@ use Rattle.age_bench.proofs.Answered.{as_other}
 abbrev pub IsPaired : To → With → Type 0
 IsPaired recipient with_ = GoesWith recipient with_ → BelongsTo WrapsTo (FirstOf (Steady AsksWith)) (is_other_to with_) recipient with_
 
-own_bench : {R I : Type 0} (recipient : R) (identity : I) → BelongsTo (λ r. BenchWraps) (FirstOf (Steady (λ i. BenchAsks))) has_other_tag recipient identity
+own_bench : {R I : Type 0} (recipient : R) (identity : I)
+    → BelongsTo (λ r. BenchWraps) (FirstOf (Steady (λ i. BenchAsks))) has_other_tag recipient identity
     → IsPaired to.Bench Bench
 own_bench recipient identity pair goes file_key wrapped before later answer after sixteen wraps_so strange asked =
     let stanzas = before ++ (wrapped.stanzas ++ later) in
     pair file_key wrapped before later answer identity sixteen wraps_so strange
     (inl (as_other AsksWith (λ i. BenchAsks) Bench identity (λ s own h. h) stanzas answer (either_way AsksWith Bench stanzas answer after asked)))
 
-pub bench_paired : {R I : Type 0} (recipient : R) (identity : I) → BelongsTo (λ r. BenchWraps) (FirstOf (Steady (λ i. BenchAsks))) has_other_tag recipient identity
+pub bench_paired : {R I : Type 0} (recipient : R) (identity : I)
+    → BelongsTo (λ r. BenchWraps) (FirstOf (Steady (λ i. BenchAsks))) has_other_tag recipient identity
     → (named : To) → IsPaired named Bench
 bench_paired recipient identity pair to.Bench goes = own_bench recipient identity pair goes
 bench_paired recipient identity pair (to.Key public) goes = absurd goes

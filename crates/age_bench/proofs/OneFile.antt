@@ -39,7 +39,8 @@ back_bytes xs ys b = subst AreBytes (drop_at xs ys (length xs) refl) (All-drop (
 opened_bytes : (key nonce plain : List ℕ) → AreBytes (bench_seal key nonce plain) → AreBytes plain
 opened_bytes key nonce plain b =
     let mask = hmac_of key nonce in
-    rw masked_twice at (masked-bytes mask 0 (masked mask plain) (hmac_of-bytes key nonce) (front_bytes (masked mask plain) (tag_of key nonce plain) b))
+    rw masked_twice at (masked-bytes mask 0 (masked mask plain) (hmac_of-bytes key nonce)
+    (front_bytes (masked mask plain) (tag_of key nonce plain) b))
 
 joined_bytes : (key plain : List ℕ) (n : ℕ) → AreBytes (middle_seals bench_seal key plain n) → AreBytes (joined_pieces plain n)
 joined_bytes key plain zero b = All-nil (λ x. x < 2 ^ 8)
@@ -57,7 +58,8 @@ payload_opened key plain pieces b =
     let last = last_piece (length plain) in
     let before = middle_seals bench_seal key plain last in
     let seal = bench_seal key (chunk_nonce last true) (piece last plain) in
-    let all : AreBytes (joined_pieces plain (suc last)) = All-append P (joined_pieces plain last) (piece last plain) (joined_bytes key plain last (front_bytes before seal b))
+    let all : AreBytes (joined_pieces plain (suc last)) =
+    All-append P (joined_pieces plain last) (piece last plain) (joined_bytes key plain last (front_bytes before seal b))
     (opened_bytes key (chunk_nonce last true) (piece last plain) (back_bytes before seal b)) in
     let next : suc last ≡ last + 1 = omega arith in
     subst AreBytes pieces.whole (subst (λ n. AreBytes (joined_pieces plain n)) next all)

@@ -20,7 +20,8 @@ use Rattle.age_bench.specs.declared.names.With.TheVariants.{Bench}
 -- ---- the file key
 
 opened_by : (tag args body : Bool) (bytes key : List ℕ)
-    → ◌≡◌ {A = UnwrapAnswer} (if tag then (if args then (if body then Some (Ok bytes) else Some (Err InvalidHeader)) else Some (Err InvalidHeader)) else None) (Some (Ok key))
+    → ◌≡◌ {A = UnwrapAnswer} (if tag then (if args then (if body then Some (Ok bytes) else Some (Err InvalidHeader)) else Some
+    (Err InvalidHeader)) else None) (Some (Ok key))
     → (tag ≡ true) × (args ≡ true) × (body ≡ true) × (bytes ≡ key)
 opened_by true true true bytes key h = (refl, refl, refl, Prim.cc)
 opened_by true true false bytes key h = absurd (Prim.cc)
@@ -34,11 +35,13 @@ opened s key h =
     let name : s.tag ≡ codes "bench" = (bytes_eq-Decides s.tag (codes "bench")).0 tag in
     let none : s.args ≡ [] = nil_from_length s.args (eqb-true (length s.args) 0 args) in
     let same : s ≡ bench_stanza key =
-    ap (λ t. record { tag = t; args = s.args; body = s.body }) name ∙ (ap (λ l. record { tag = codes "bench"; args = l; body = s.body }) none ∙ ap bench_stanza is) in
+    ap (λ t. record { tag = t; args = s.args; body = s.body }) name
+    ∙ (ap (λ l. record { tag = codes "bench"; args = l; body = s.body }) none ∙ ap bench_stanza is) in
     (same, rw is at (eqb-true (length s.body) 16 body))
 
 passed_by : (tag args body : Bool) (bytes : List ℕ)
-    → ◌≡◌ {A = UnwrapAnswer} (if tag then (if args then (if body then Some (Ok bytes) else Some (Err InvalidHeader)) else Some (Err InvalidHeader)) else None) None
+    → ◌≡◌ {A = UnwrapAnswer} (if tag then (if args then (if body then Some (Ok bytes) else Some (Err InvalidHeader)) else Some
+    (Err InvalidHeader)) else None) None
     → tag ≢ true
 passed_by true true true bytes h = absurd (Prim.cc)
 passed_by true true false bytes h = absurd (Prim.cc)
@@ -48,7 +51,8 @@ passed_by false args body bytes h = false≢true
 -- one that gives nothing has another tag
 passed_over : (s : StanzaValue) → bench_unwrapped s ≡ None → s.tag ≢ codes "bench"
 passed_over s h same =
-    passed_by (bytes_eq s.tag (codes "bench")) (nat_eq (length s.args) 0) (nat_eq (length s.body) 16) s.body h ((bytes_eq-Decides s.tag (codes "bench")).1 same)
+    passed_by (bytes_eq s.tag (codes "bench")) (nat_eq (length s.args) 0) (nat_eq (length s.body) 16) s.body h
+    ((bytes_eq-Decides s.tag (codes "bench")).1 same)
 
 holds_more : (s : StanzaValue) (stanzas : List StanzaValue) (key : List ℕ) (answer : UnwrapAnswer) → bench_unwrapped s ≡ answer
     → (Some (Ok key) ≡ first_answer bench_unwrapped stanzas → HoldsBenchKey key stanzas)
@@ -74,7 +78,8 @@ holds (s ∷ stanzas) key h = holds_more s stanzas key (bench_unwrapped s) refl 
 -- ---- the other way
 
 not_bench : (tag args body : Bool) (bytes : List ℕ) → tag ≢ true
-    → ◌≡◌ {A = UnwrapAnswer} (if tag then (if args then (if body then Some (Ok bytes) else Some (Err InvalidHeader)) else Some (Err InvalidHeader)) else None) None
+    → ◌≡◌ {A = UnwrapAnswer} (if tag then (if args then (if body then Some (Ok bytes) else Some (Err InvalidHeader)) else Some
+    (Err InvalidHeader)) else None) None
 not_bench true args body bytes other = absurd (other refl)
 not_bench false args body bytes other = refl
 
@@ -104,7 +109,8 @@ held_answer stanzas key holds = ap (first_answer bench_unwrapped) holds.all ∙ 
 
 or_else : (s : StanzaValue) (rest : List StanzaValue) (first answer : UnwrapAnswer) (between : With) → (first ≡ bench_unwrapped s) × (between ≡ Bench)
     → (answers_of Bench rest answer → answer ≡ bench_answer rest)
-    → UnlessAnswered (λ with_. FirstOf (Steady AsksWith) with_ rest) first between answer Bench → answer ≡ option_or (bench_unwrapped s) (bench_answer rest)
+    → UnlessAnswered (λ with_. FirstOf (Steady AsksWith) with_ rest) first between answer Bench
+    → answer ≡ option_or (bench_unwrapped s) (bench_answer rest)
 or_else s rest None answer between asked step h = rw (← asked.0) (step (subst (λ with_. FirstOf (Steady AsksWith) with_ rest answer Bench) asked.1 h))
 or_else s rest (Some a) answer between asked step h = rw (← asked.0) h.0
 

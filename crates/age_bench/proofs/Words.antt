@@ -29,12 +29,15 @@ not_not true named = refl
 not_not false named = absurd (true≢false (sym named))
 
 -- three words or more, of which the first is known
-pub behind : {Word : Type 0} (bytes : Word → List ℕ) (words : List Word) (first second third : Word) (known name left right : List ℕ) (asked : Option CommandValue)
+pub behind : {Word : Type 0} (bytes : Word → List ℕ) (words : List Word) (first second third : Word) (known name left right : List ℕ)
+    (asked : Option CommandValue)
     → 3 ≤ length words → first ≡ get_or words 0 first → second ≡ get_or words 1 second → third ≡ get_or words 2 third
     → name ≡ bytes first → left ≡ bytes second → right ≡ bytes third → true ≡ bytes_eq name known
     → AsksFor (known ∷ left ∷ right ∷ map bytes (take (length words - 3) (drop 3 words))) asked → AsksFor (map bytes words) asked
-behind bytes [] first second third known name left right asked long is_first is_second is_third is_name is_left is_right same h = absurd (omega (arith, long))
-behind bytes (a ∷ []) first second third known name left right asked long is_first is_second is_third is_name is_left is_right same h = absurd (omega (arith, long))
+behind bytes [] first second third known name left right asked long is_first is_second is_third is_name is_left is_right same h =
+    absurd (omega (arith, long))
+behind bytes (a ∷ []) first second third known name left right asked long is_first is_second is_third is_name is_left is_right same h =
+    absurd (omega (arith, long))
 behind bytes (a ∷ b ∷ []) first second third known name left right asked long is_first is_second is_third is_name is_left is_right same h =
     absurd (omega (arith, long))
 behind bytes (a ∷ b ∷ c ∷ more) first second third known name left right asked long is_first is_second is_third is_name is_left is_right same h =

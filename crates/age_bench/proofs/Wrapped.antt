@@ -31,7 +31,8 @@ abbrev pub IsDue : {A : Type 0} → Result A EncryptRefusal → Result A Encrypt
 IsDue due outcome = (outcome ≡ due) ⊎ (outcome ≡ Err OutOfMemory)
 
 -- a refusal of encryption says what follows from what it says
-pub encrypts_weaker : (P Q : EncryptRefusal → Type 0) → ((refusal : EncryptRefusal) → P refusal → Q refusal) → (e : FileError) → EncryptsUnless P e → EncryptsUnless Q e
+pub encrypts_weaker : (P Q : EncryptRefusal → Type 0) → ((refusal : EncryptRefusal) → P refusal → Q refusal) → (e : FileError)
+    → EncryptsUnless P e → EncryptsUnless Q e
 encrypts_weaker P Q f (Encrypt e) d = f (encrypt_refusal e) d
 encrypts_weaker P Q f (Io e) d = tt
 encrypts_weaker P Q f (Decrypt e) d = d
@@ -49,7 +50,8 @@ nonce_due : (file_key : List ℕ) (stanzas : List StanzaValue) (draws left : Lis
     → IsDue (drawn (taken 16 draws) (λ nonce. Ok (record { file_key = file_key; stanzas = stanzas; nonce = nonce }))) outcome
 nonce_due file_key stanzas draws left outcome h =
     let made : List ℕ → Prepared = λ nonce. record { file_key = file_key; stanzas = stanzas; nonce = nonce } in
-    let goes_on : List ℕ → Type 0 = λ nonce. UnlessNoMemory (Ends (Ok (made nonce)) (left_after 16 draws) outcome left) (left_after 16 draws) outcome left in
+    let goes_on : List ℕ → Type 0 = λ nonce. UnlessNoMemory (Ends (Ok (made nonce)) (left_after 16 draws) outcome left)
+    (left_after 16 draws) outcome left in
     due_of_drawn (taken 16 draws) goes_on draws left outcome (λ nonce. Ok (made nonce))
     (λ nonce on. elim on [
       | inl done ↦ inl done.0
@@ -74,35 +76,41 @@ abbrev Answered : To → List ℕ → List ℕ → WrapAnswer → List ℕ → T
 Answered to file_key draws answer left = Answers (wrapped_by to file_key draws) (left_by to draws) answer left
 
 -- what was wrapped was due
-value_due : (due : Result Wrapped EncryptRefusal) (wrapped : Wrapped) (answer : WrapAnswer) → IsDue due answer → answer ≡ Ok wrapped → due ≡ Ok wrapped
+value_due : (due : Result Wrapped EncryptRefusal) (wrapped : Wrapped) (answer : WrapAnswer) → IsDue due answer → answer ≡ Ok wrapped
+    → due ≡ Ok wrapped
 value_due due wrapped answer (inl is) made = sym is ∙ made
 value_due due wrapped answer (inr want) made = no_refusal wrapped OutOfMemory (sym made ∙ want)
 
 -- one stanza without labels
-plain_one : (stanza : StanzaValue) (wrapped : Wrapped) → ◌≡◌ {A = Result Wrapped EncryptRefusal} (Ok (record { stanzas = stanza ∷ []; labels = [] })) (Ok wrapped)
+plain_one : (stanza : StanzaValue) (wrapped : Wrapped)
+    → ◌≡◌ {A = Result Wrapped EncryptRefusal} (Ok (record { stanzas = stanza ∷ []; labels = [] })) (Ok wrapped)
     → IsOne wrapped
 plain_one stanza wrapped is = record { stanza = stanza; labels = []; is = sym (same_value _ wrapped is); strings = refl }
 
 -- a refusal that is due, or want of memory
-refused_as : (e : EncryptRefusal) (due : Result Wrapped EncryptRefusal) (kept : List ℕ) (answer : WrapAnswer) (left : List ℕ) → answer ≡ Err e → IsDue due answer
+refused_as : (e : EncryptRefusal) (due : Result Wrapped EncryptRefusal) (kept : List ℕ) (answer : WrapAnswer) (left : List ℕ) → answer ≡ Err e
+    → IsDue due answer
     → Answers due kept answer left
 refused_as e due kept answer left is so =
     record { is_due = so; left_is = λ wrapped made. no_refusal wrapped e (sym made ∙ is); one = λ wrapped made. no_refusal wrapped e (sym made ∙ is) }
 
-bench_answered : (file_key draws : List ℕ) (answer : WrapAnswer) (left : List ℕ) → WrapsTo Bench file_key draws answer left → Answered Bench file_key draws answer left
+bench_answered : (file_key draws : List ℕ) (answer : WrapAnswer) (left : List ℕ) → WrapsTo Bench file_key draws answer left
+    → Answered Bench file_key draws answer left
 bench_answered file_key draws answer left (inl h) =
     record { is_due = inl h.0; left_is = λ _ _. h.1; one = λ wrapped is. plain_one (bench_stanza file_key) wrapped (sym h.0 ∙ is) }
 bench_answered file_key draws answer left (inr h) = refused_as OutOfMemory _ _ answer left h.0 (inr h.0)
 
 -- what came after a value that was due
-after_due : (due : Result Wrapped EncryptRefusal) (draws : List ℕ) (answer : WrapAnswer) (left : List ℕ) → After due (λ w. Ends (Ok w)) draws answer left
+after_due : (due : Result Wrapped EncryptRefusal) (draws : List ℕ) (answer : WrapAnswer) (left : List ℕ)
+    → After due (λ w. Ends (Ok w)) draws answer left
     → IsDue due answer × (left ≡ draws)
 after_due (Err e) draws answer left h = (inl h.0, h.1)
 after_due (Ok w) draws answer left (inl h) = (inl h.0, h.1)
 after_due (Ok w) draws answer left (inr h) = (inr h.0, h.1)
 
 -- an answer for which random bytes are drawn
-drawn_answer : (enough : Bool) (n : ℕ) (Known : List ℕ → Type 0) (due : List ℕ → Result Wrapped EncryptRefusal) (draws : List ℕ) (answer : WrapAnswer) (left : List ℕ)
+drawn_answer : (enough : Bool) (n : ℕ) (Known : List ℕ → Type 0) (due : List ℕ → Result Wrapped EncryptRefusal) (draws : List ℕ)
+    (answer : WrapAnswer) (left : List ℕ)
     → MatchOption (if enough then Some (take n draws) else None) (Ends (Err ShortRandom) draws answer left)
     (λ bytes. Known bytes × After (due bytes) (λ w. Ends (Ok w)) (if enough then drop n draws else draws) answer left)
     → IsDue (drawn (if enough then Some (take n draws) else None) due) answer × (left ≡ (if enough then drop n draws else draws))
@@ -130,8 +138,10 @@ key_answered : (public file_key draws : List ℕ) (answer : WrapAnswer) (left : 
 key_answered public file_key draws answer left h =
     let due : List ℕ → Result Wrapped EncryptRefusal = λ ephemeral. wrapped_with bench_seal bench_shared bench_public public file_key ephemeral in
     let after : List ℕ → Type 0 = λ ephemeral. After (due ephemeral) (λ w. Ends (Ok w)) (left_after 32 draws) answer left in
-    let known = of_some (taken 32 draws) (Ends (Err ShortRandom) draws answer left) (λ ephemeral. AreBytesOf 16 file_key) (λ ephemeral. AreBytesOf 32 ephemeral) after h in
-    let (is, same) = drawn_answer (nat_le 32 (length draws)) 32 (λ ephemeral. AreBytesOf 16 file_key × AreBytesOf 32 ephemeral) due draws answer left known in
+    let known = of_some (taken 32 draws) (Ends (Err ShortRandom) draws answer left) (λ ephemeral. AreBytesOf 16 file_key)
+    (λ ephemeral. AreBytesOf 32 ephemeral) after h in
+    let (is, same) = drawn_answer (nat_le 32 (length draws)) 32
+    (λ ephemeral. AreBytesOf 16 file_key × AreBytesOf 32 ephemeral) due draws answer left known in
     record {
       is_due = is;
       left_is = λ _ _. same;
@@ -152,7 +162,8 @@ passphrase_one true stanza label wrapped bytes is =
     record { stanza = stanza; labels = columns label ∷ []; is = sym (same_value _ wrapped is); strings = label_string label bytes }
 passphrase_one false stanza label wrapped bytes is = no_refusal wrapped WorkFactorRefused (sym is)
 
-passphrase_by : (salt label : Option (List ℕ)) (recipient : PassphraseRecipient) (file_key draws between kept : List ℕ) (answer : WrapAnswer) (left : List ℕ)
+passphrase_by : (salt label : Option (List ℕ)) (recipient : PassphraseRecipient) (file_key draws between kept : List ℕ) (answer : WrapAnswer)
+    (left : List ℕ)
     → MatchOption salt (Ends (Err ShortRandom) draws answer left) (λ s. MatchOption label (Ends (Err ShortRandom) between answer left)
     (λ l. WrapsWithSalt bench_seal bench_stretch bench_accepts recipient file_key s l kept answer left))
     → Answers (drawn salt (λ s. drawn label (λ l. wrapped_under bench_seal bench_stretch bench_accepts recipient file_key s l))) kept answer left
@@ -170,9 +181,11 @@ passphrase_by (Some s) (Some l) recipient file_key draws between kept answer lef
 passphrase_answered : (recipient : PassphraseRecipient) (file_key draws : List ℕ) (answer : WrapAnswer) (left : List ℕ)
     → WrapsTo (Passphrase recipient) file_key draws answer left → Answered (Passphrase recipient) file_key draws answer left
 passphrase_answered recipient file_key draws answer left h =
-    passphrase_by (taken 16 draws) (taken 24 (left_after 16 draws)) recipient file_key draws (left_after 16 draws) (left_after 24 (left_after 16 draws)) answer left h
+    passphrase_by (taken 16 draws) (taken 24 (left_after 16 draws)) recipient file_key draws (left_after 16 draws)
+    (left_after 24 (left_after 16 draws)) answer left h
 
-answered : (to : To) (file_key draws : List ℕ) (answer : WrapAnswer) (left : List ℕ) → WrapsTo to file_key draws answer left → Answered to file_key draws answer left
+answered : (to : To) (file_key draws : List ℕ) (answer : WrapAnswer) (left : List ℕ) → WrapsTo to file_key draws answer left
+    → Answered to file_key draws answer left
 answered Bench file_key draws answer left h = bench_answered file_key draws answer left h
 answered (Key public) file_key draws answer left h = key_answered public file_key draws answer left h
 answered (Passphrase recipient) file_key draws answer left h = passphrase_answered recipient file_key draws answer left h
@@ -214,7 +227,8 @@ rest_by : (scrypt : Bool) (file_key : List ℕ) (stanza : StanzaValue) (draws : 
 rest_by true file_key stanza draws outcome left h = rest_on file_key (stanza ∷ []) draws outcome left h
 rest_by false file_key stanza draws outcome left h = rest_on file_key (stanza ∷ bench_grease ∷ []) draws outcome left h
 
-rest_due : (file_key : List ℕ) (stanza : StanzaValue) (labels : List (List ℕ)) (draws : List ℕ) (outcome : Result Prepared EncryptRefusal) (left : List ℕ)
+rest_due : (file_key : List ℕ) (stanza : StanzaValue) (labels : List (List ℕ)) (draws : List ℕ) (outcome : Result Prepared EncryptRefusal)
+    (left : List ℕ)
     → PreparesRest file_key (Some bench_grease) (gathered_by stanza labels) draws outcome left
     → IsDue (finished file_key (record { stanzas = stanza ∷ []; labels = labels }) draws) outcome
 rest_due file_key stanza labels draws outcome left h = rest_by (has_scrypt (stanza ∷ [])) file_key stanza draws outcome left h
@@ -232,7 +246,8 @@ gathered_due file_key stanza labels draws gathered between outcome left (inr wan
     inr ended.0
 
 -- the same where the recipient refused
-refused_due : (due : Result Wrapped EncryptRefusal) (next : Wrapped → Result Prepared EncryptRefusal) (e : EncryptRefusal) (outcome : Result Prepared EncryptRefusal)
+refused_due : (due : Result Wrapped EncryptRefusal) (next : Wrapped → Result Prepared EncryptRefusal) (e : EncryptRefusal)
+    (outcome : Result Prepared EncryptRefusal)
     → IsDue due (Err e) → outcome ≡ Err e → IsDue (and_then due next) outcome
 refused_due due next e outcome (inl is) ended = inl (ended ∙ ap (λ d. and_then d next) is)
 refused_due due next e outcome (inr want) ended = inr (ended ∙ ap Err (same_refusal {A = Wrapped} e OutOfMemory want))
@@ -242,7 +257,8 @@ with_due : (to : To) (file_key draws : List ℕ) (outcome : Result Prepared Encr
     → IsDue (and_then (wrapped_by to file_key draws) (λ wrapped. finished file_key wrapped (left_by to draws))) outcome
 with_due to file_key draws outcome left (gathered, between, (Err e, after, wraps, judges), rest) =
     let ended : Ends (Err e) between outcome left = rw judges.0 at rest in
-    refused_due (wrapped_by to file_key draws) (λ wrapped. finished file_key wrapped (left_by to draws)) e outcome (answered to file_key draws (Err e) after wraps).is_due ended.0
+    refused_due (wrapped_by to file_key draws) (λ wrapped. finished file_key wrapped (left_by to draws)) e outcome
+    (answered to file_key draws (Err e) after wraps).is_due ended.0
 with_due to file_key draws outcome left (gathered, between, (Ok wrapped, after, wraps, judges), rest) =
     let said = answered to file_key draws (Ok wrapped) after wraps in
     let is : Ok wrapped ≡ wrapped_by to file_key draws = made_due _ wrapped said.is_due in
@@ -259,7 +275,8 @@ with_due to file_key draws outcome left (gathered, between, (Ok wrapped, after, 
 pub prepared : (to : To) (draws : List ℕ) (outcome : Result Prepared EncryptRefusal) (left : List ℕ)
     → Prepares WrapsTo (to ∷ []) (Some bench_grease) draws outcome left → IsDue (prepared_by to draws) outcome
 prepared to draws outcome left h =
-    due_of_drawn (taken 16 draws) (λ file_key. PreparesWith WrapsTo (to ∷ []) (Some bench_grease) file_key (left_after 16 draws) outcome left) draws left outcome
+    due_of_drawn (taken 16 draws) (λ file_key. PreparesWith WrapsTo (to ∷ []) (Some bench_grease) file_key (left_after 16 draws) outcome left)
+    draws left outcome
     (λ file_key. and_then (wrapped_by to file_key (left_after 16 draws)) (λ wrapped. finished file_key wrapped (left_by to (left_after 16 draws))))
     (λ file_key on. with_due to file_key (left_after 16 draws) outcome left on) h
 
@@ -272,9 +289,11 @@ filed to draws plain file left h = elim (prepared to draws (Ok file) left h) [
 ]
 
 -- or the refusal
-pub never_filed : (to : To) (draws : List ℕ) (refusal : EncryptRefusal) (left : List ℕ) → Prepares WrapsTo (to ∷ []) (Some bench_grease) draws (Err refusal) left
+pub never_filed : (to : To) (draws : List ℕ) (refusal : EncryptRefusal) (left : List ℕ)
+    → Prepares WrapsTo (to ∷ []) (Some bench_grease) draws (Err refusal) left
     → (refusal ≡ OutOfMemory) ⊎ ((plain : List ℕ) → file_by to draws plain ≡ Err refusal)
 never_filed to draws refusal left h = elim (prepared to draws (Err refusal) left h) [
-  | inl due ↦ inr (λ plain. ap (λ made. result_map_both (λ file. file_text bench_seal file.file_key file.stanzas file.nonce plain) (λ e. e) made) (sym due))
+  | inl due ↦ inr (λ plain. ap (λ made. result_map_both (λ file. file_text bench_seal file.file_key file.stanzas file.nonce plain) (λ e. e) made)
+      (sym due))
   | inr want ↦ inl (same_refusal {A = Prepared} refusal OutOfMemory want)
 ]

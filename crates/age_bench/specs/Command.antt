@@ -71,7 +71,8 @@ NamesWith word (Some with_.Bench) = word ≡ codes "bench"
 NamesWith word (Some (with_.Key secret)) = IsKeyText identity_prefix word secret
 NamesWith word (Some (with_.Passphrase identity)) = (word ≡ passphrase_word identity.passphrase) × (identity.target ≡ 18) × (identity.most ≡ 22)
 NamesWith word None =
-    (word ≢ codes "bench") × ((passphrase : List ℕ) → word ≢ passphrase_word passphrase) × ((secret : List ℕ) → IsKeyText identity_prefix word secret → ⊥)
+    (word ≢ codes "bench") × ((passphrase : List ℕ) → word ≢ passphrase_word passphrase)
+    × ((secret : List ℕ) → IsKeyText identity_prefix word secret → ⊥)
 
 -- one or the other, by a test
 abbrev pub When : Bool → Type 0 → Type 0 → Type 0

@@ -116,7 +116,8 @@ bench_shared_alike a b h k = alike a b
 pub bench_public-bytes : (a : List ℕ) → AreBytesOf 32 a → AreBytesOf 32 (bench_public a)
 bench_public-bytes a h = record {
   len = rw length-map h.len;
-  bytes = All-map (λ x. x < 2 ^ 8) (λ x. bit_xor x 0x5a) a (All-weaker (λ x. x < 2 ^ 8) (λ x. bit_xor x 0x5a < 2 ^ 8) (λ x y. xor_lt 8 x 0x5a y (lit< tt)) a h.bytes);
+  bytes = All-map (λ x. x < 2 ^ 8) (λ x. bit_xor x 0x5a) a
+      (All-weaker (λ x. x < 2 ^ 8) (λ x. bit_xor x 0x5a < 2 ^ 8) (λ x y. xor_lt 8 x 0x5a y (lit< tt)) a h.bytes);
 }
 
 shared-bytes : (a b : List ℕ) → AreBytes a → AreBytes b → AreBytes (bench_shared a b)

@@ -33,9 +33,11 @@ WrapsTo (to.Passphrase recipient) file_key draws answer left = WrapsUnder bench_
 -- the next 16 for the salt and 24 more for the label
 abbrev pub wrapped_by : To → List ℕ → List ℕ → Result Wrapped EncryptRefusal
 wrapped_by to.Bench file_key draws = Ok (bench_wrapped file_key)
-wrapped_by (to.Key public) file_key draws = drawn (taken 32 draws) (λ ephemeral. wrapped_with bench_seal bench_shared bench_public public file_key ephemeral)
+wrapped_by (to.Key public) file_key draws =
+    drawn (taken 32 draws) (λ ephemeral. wrapped_with bench_seal bench_shared bench_public public file_key ephemeral)
 wrapped_by (to.Passphrase recipient) file_key draws =
-    drawn (taken 16 draws) (λ salt. drawn (taken 24 (left_after 16 draws)) (λ label. wrapped_under bench_seal bench_stretch bench_accepts recipient file_key salt label))
+    drawn (taken 16 draws) (λ salt. drawn (taken 24 (left_after 16 draws))
+    (λ label. wrapped_under bench_seal bench_stretch bench_accepts recipient file_key salt label))
 
 -- and the random bytes that are left then
 abbrev pub left_by : To → List ℕ → List ℕ

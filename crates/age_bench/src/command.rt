@@ -102,7 +102,8 @@ fn parse_key(alloc: Global, text: &str) -> Result<Option<[u8; 32]>, AllocError>
 
 // The passphrase that a word names.
 fn passphrase_of(word: &str) -> Option<&str>
-    ensures { MatchOption result ((passphrase : List ℕ) → word.now ≢ passphrase_word passphrase) (λ passphrase. word.now ≡ passphrase_word passphrase.now) }
+    ensures { MatchOption result ((passphrase : List ℕ) → word.now ≢ passphrase_word passphrase)
+        (λ passphrase. word.now ≡ passphrase_word passphrase.now) }
 {
     word.strip_prefix("pass=")
 }
@@ -180,7 +181,8 @@ fn parse_two(alloc: Global, name: &str, word: &str) -> Result<Option<Command>, A
 
 // The form that the words after `encrypt TO DRAW` ask for: none of them for the bytes themselves, `armor` for armor.
 fn parse_format(words: &[String]) -> Option<Format>
-    ensures { (to draw : List ℕ) (asked : Option CommandValue) → InFormat to draw result asked → AsksFor (codes "encrypt" ∷ to ∷ draw ∷ map string_bytes words.now) asked }
+    ensures { (to draw : List ℕ) (asked : Option CommandValue) → InFormat to draw result asked
+        → AsksFor (codes "encrypt" ∷ to ∷ draw ∷ map string_bytes words.now) asked }
 {
     let Some((word, more)) = words.split_first() else {
         return Some(Format::Binary);

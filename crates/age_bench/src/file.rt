@@ -22,7 +22,8 @@ use age::streaming::{FileError, decrypt_all, encrypt_all};
 use age::suite::Suite;
 use std::alloc::Global;
 
-// The stanza that a file has besides those of its recipients, where none of these is of a passphrase: the tag `agebench-grease`, no arguments and no body.
+// The stanza that a file has besides those of its recipients, where none of
+// these is of a passphrase: the tag `agebench-grease`, no arguments and no body.
 fn grease(alloc: Global) -> Result<Grease, EncryptError>
     ensures value { IfOk result (λ grease. grease ≡ bench_grease) }
     ensures memory { IfErr result (λ e. encrypt_refusal e ≡ OutOfMemory) }

@@ -30,13 +30,15 @@ pub fn open_with<T: Read + Drop>(
     with: With,
     bytes: T,
 ) -> Result<StreamReader<BenchSuite, T>, DecryptError>
-    ensures tells { let reader = ⟦<StreamReader<BenchSuite, T> as Read>⟧ in IfOk result (λ stream. reader.tells stream ≡ (T.tells bytes && T.steady bytes)) }
+    ensures tells { let reader = ⟦<StreamReader<BenchSuite, T> as Read>⟧ in
+        IfOk result (λ stream. reader.tells stream ≡ (T.tells bytes && T.steady bytes)) }
     ensures faults { let reader = ⟦<StreamReader<BenchSuite, T> as Read>⟧ in IfOk result (λ stream. T.faults bytes ≤ reader.faults stream) }
     ensures opened { IfOk result (λ stream. (after : List With) × IsOpened ⟦<With as Identity>⟧.unwraps (with ∷ []) after bytes stream) }
     ensures plaintext { IsTrue (T.tells bytes && T.steady bytes) → IsTrue (T.rest bytes).ends_well → (plain : List ℕ) →
         IsFileFor bench_seal (answers_of with) plain (T.rest bytes).bytes →
         MatchResult result (λ stream. StandsBefore plain stream) (λ e. ((t : T) → T.faults t ≡ 0) → decrypt_refusal e ≡ OutOfMemory) }
-    ensures refused { IfErr result (λ e. (after : List With) × IsNotOpened ⟦<With as Identity>⟧.unwraps ⟦<T as Read>⟧ (with ∷ []) after bytes (decrypt_refusal e)) }
+    ensures refused { IfErr result (λ e. (after : List With)
+        × IsNotOpened ⟦<With as Identity>⟧.unwraps ⟦<T as Read>⟧ (with ∷ []) after bytes (decrypt_refusal e)) }
 {
     open_file::<BenchSuite, With, T>(alloc, &mut [with], bytes)
 }

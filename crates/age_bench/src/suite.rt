@@ -1,7 +1,7 @@
 //! The bench suite: a suite with all the laws and no security. Tests and programs that compare
 //! bytes use it, since its seals can be computed by any HMAC.
 
-ghost use Rattle.std.specs.Prelude.{◌≡◌, ◌≤◌, ◌*◌, ◌++◌, List, length, map, bit_xor};
+ghost use Rattle.std.specs.Prelude.{◌≡◌, ◌≤◌, ◌*◌, length};
 ghost use Rattle.age_bench.specs.Bench.{masked, tag_of, bench_seal, bench_opened, bench_shared, bench_public, bench_stretch, bench_accepts};
 ghost use Rattle.age_bench.specs.Laws.{bench_cipher, bench_agreement, bench_stretching};
 

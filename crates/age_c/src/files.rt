@@ -5,7 +5,7 @@ ghost use Rattle.age_c.specs.Forms.{form};
 ghost use Rattle.age_files.specs.Decrypting.{DecryptsUnder};
 ghost use Rattle.age_files.specs.Encrypting.{EncryptsTo, EncryptsUnder};
 ghost use Rattle.age_files.specs.Status;
-ghost use Rattle.age_slices.specs.Decrypting.{AreIdentities, DecryptsBy, RefusesIdentities};
+ghost use Rattle.age_slices.specs.Decrypting.{AreIdentities, DecryptsBytesBy, RefusesIdentityText};
 ghost use Rattle.age_slices.specs.Handing.{HandsOutAnswer};
 ghost use Rattle.age_slices.specs.Status.{of_file as file_status};
 ghost use Rattle.sazh_core.specs.declared.error.CommandError.{CommandError as command_error};
@@ -98,9 +98,9 @@ pub extern "C" fn age_decrypt<'a>(
     written: &mut usize,
 ) -> u32
     ensures { (answer : Result (List ℕ) file_error)
-        × DecryptsBy ⟦<x25519::Identity<StandardSuite> as Identity>⟧.unwraps ⟦<StandardSuite as Suite>⟧ ⟦<Bytes<'a> as Read>⟧ ⟦<Vec<u8> as Write>⟧
-        vec_items
-        (RefusesIdentities identities.now) (AreIdentities identities.now) file.now answer
+        × DecryptsBytesBy ⟦<x25519::Identity<StandardSuite> as Identity>⟧.unwraps ⟦<StandardSuite as Suite>⟧ ⟦<Bytes<'a> as Read>⟧
+        ⟦<Vec<u8> as Write>⟧ vec_items
+        (RefusesIdentityText identities.now) (AreIdentities identities.now) file.now answer
         × HandsOutAnswer file_status answer out.old out.new written.new result }
 {
     decrypt_by_out::<StandardSuite>(alloc, identities, file, out, written)

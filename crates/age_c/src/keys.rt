@@ -1,5 +1,5 @@
 //! Keys.
-ghost use Rattle.std.specs.Prelude.{◌≡◌, ℕ, List, Result};
+ghost use Rattle.std.specs.Prelude.{ℕ, List, Result};
 ghost use Rattle.age.specs.Types.{EncryptError as encrypt_error};
 ghost use Rattle.age_files.specs.Keys.{MakesKey, TellsRecipients};
 ghost use Rattle.age_files.specs.Status;

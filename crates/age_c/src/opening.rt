@@ -3,7 +3,7 @@ ghost use Rattle.std.specs.Prelude.{Option, Result};
 ghost use Rattle.age.specs.Types.{DecryptError as decrypt_error};
 ghost use Rattle.age_files.specs.Opening.{OpensHeaderUnder};
 ghost use Rattle.age_files.specs.Status;
-ghost use Rattle.age_slices.specs.Decrypting.{AreIdentities, RefusesIdentities};
+ghost use Rattle.age_slices.specs.Decrypting.{AreIdentities, RefusesIdentityText};
 ghost use Rattle.age_slices.specs.Opening.{HandsOutPayload, OpensHeaderBy};
 ghost use Rattle.age_slices.specs.Status.{of_decrypt as decrypt_status};
 ghost use Rattle.age_slices.specs.declared.opening.PayloadAt.{PayloadAt as payload_at};
@@ -27,7 +27,7 @@ pub extern "C" fn age_open_header(
     place: &mut usize,
 ) -> u32
     ensures { (answer : Result (Option payload_at) decrypt_error)
-        × OpensHeaderBy ⟦<x25519::Identity<StandardSuite> as Identity>⟧.unwraps (RefusesIdentities identities.now) (AreIdentities identities.now)
+        × OpensHeaderBy ⟦<x25519::Identity<StandardSuite> as Identity>⟧.unwraps (RefusesIdentityText identities.now) (AreIdentities identities.now)
         front.now answer
         × HandsOutPayload decrypt_status answer out.old out.new written.new place.new result }
 {

@@ -47,7 +47,8 @@ want_back P size (Encrypt e) want = absurd want
 want_back P size (Decrypt e) want = want
 
 -- and a plaintext for that, for its length, or as the encryptor refuses, where it is encrypted into a list
-pub refused_back : {W : Type 0} (X : Type 0) (Why : Error → Type 0) (w : W) (size told : ℕ) (P : EncryptRefusal → Type 0) (e : FileError) → size ≡ told
+pub refused_back : {W : Type 0} (X : Type 0) (Why : Error → Type 0) (w : W) (size told : ℕ) (P : EncryptRefusal → Type 0) (e : FileError)
+    → size ≡ told
     → EncryptsUnless P e → IfIo (λ x. X × Why x) e → ((x : Error) → Why x → RefusesFile ForMemory w size x) → RefusesBack P told e
 refused_back X Why w size told P (Io e) same why (x, refused) of_file = elim (of_file e refused) [
   | inl long ↦ inr (long.0, subst (λ (n : ℕ). 2 ^ 60 < n) same long.1)

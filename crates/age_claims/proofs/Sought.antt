@@ -11,7 +11,7 @@ use Rattle.age.specs.SeekFromVariants.{Start}
 use Rattle.age.specs.Stretch.{Stretch}
 use Rattle.age.specs.Types.{Error}
 use Rattle.age.proofs.Parts.{ends_before}
-use Rattle.age_claims.specs.Claims.{Reaches}
+use Rattle.age_claims.specs.Claims.{ReachesPlace}
 
 by_place : (within : Bool) (place start : ℕ) → ◌≡◌ {A = Result ℕ Error} (if within then Ok place else Err PastEnd) (Ok start) → within ≡ true
 by_place true place start is = refl
@@ -28,7 +28,8 @@ by_length None place stood start is = absurd (Prim.cc)
 by_length (Some len) place stood start is = (len, refl, by_limit (nat_le len (2 ^ 60)) place len start is)
 
 -- it leads to a place that the plaintext has by the payload's length, or to its end
-pub leads_inside : (sealed : Stretch) (place stood start : ℕ) → sought_in (Start place) stood (length sealed.bytes) ≡ Ok start → Reaches place sealed
+pub leads_inside : (sealed : Stretch) (place stood start : ℕ) → sought_in (Start place) stood (length sealed.bytes) ≡ Ok start
+    → ReachesPlace place sealed
 leads_inside sealed place stood start is =
     let (len, plain, inside) = by_length (plain_len (length sealed.bytes)) place stood start is in
     record { len = len; plain = plain; inside = inside }

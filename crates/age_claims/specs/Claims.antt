@@ -1,5 +1,5 @@
 -- What the claims speak of.
-use Rattle.std.proofs.Common.{◌+◌, Bool, true, IsTrue, get_or}
+use Rattle.std.proofs.Common.{◌+◌, Bool, true, false, IsTrue, get_or}
 use Rattle.std.specs.Prelude.{◌≡◌, ◌≢◌, ◌⊎◌, ℕ, ◌^◌, ◌<◌, ◌≤◌, ◌*◌, List, [], ◌∷◌, ◌++◌, length, take, codes, Option, None, Some, Ok, Err}
 use Rattle.age.specs.AnswerVariants.{Bytes, At, Fault}
 use Rattle.age.specs.Armor.{Carries}
@@ -15,7 +15,8 @@ use Rattle.age.specs.File.{file_front}
 use Rattle.age.specs.FileErrorVariants as variant
 use Rattle.age.specs.Identities.{UnwrapAnswer, Unwraps, CarriesFile, GivesFirst, IsFileFor}
 use Rattle.age.specs.OpVariants.{Read, Seek}
-use Rattle.age.specs.Payload.{Seal, chunk, payload, payload_key, plain_len, EndsAsLast}
+use Rattle.age.specs.Bytes.{AreBytes}
+use Rattle.age.specs.Payload.{Seal, chunk, chunk_nonce, payload, payload_key, piece, plain_len, EndsAsLast}
 use Rattle.age.specs.PayloadAnswers.{OpensAs}
 use Rattle.age.specs.PayloadRefusals.{IsAllowed}
 use Rattle.age.specs.PayloadTargets.{sought_in, IsRefusedTarget, IsToEnd}
@@ -55,6 +56,12 @@ abbrev pub first_chunks : {answers : List StanzaValue → UnwrapAnswer → Type 
 first_chunks {answers} {plain} {file} seal_of for n =
     file_front for.file_key for.stanzas for.is_file.nonce ++ take (65552 * n) (payload seal_of (payload_key for.file_key for.is_file.nonce) plain)
 
+-- Chunk i of a plaintext, a middle one, isn't the seal of any bytes as the last chunk too. Under a fresh key of a cipher with tags of 16 bytes that
+-- fails by a chance of about 2^-128; who knows the key can make a plaintext for which it does.
+abbrev pub HasNoLastSeal : Seal → (key plain : List ℕ) → ℕ → Type 0
+HasNoLastSeal seal_of key plain i =
+    (other : List ℕ) → AreBytes other → seal_of key (chunk_nonce i false) (piece i plain) ≡ seal_of key (chunk_nonce i true) other → ⊥
+
 -- Why a plaintext of so many bytes isn't encrypted in memory and decrypted again: memory was refused, or it is too long, or the recipients or the
 -- random bytes refused for this.
 abbrev pub RefusesBack : (EncryptRefusal → Type 0) → ℕ → FileError → Type 0
@@ -88,7 +95,7 @@ HasBegun {S} {W} seal_of below appended before bytes after =
     → AppendsFront below (payload seal_of key (plain ++ bytes)) first (inner_of after)
 
 -- By the payload's length its plaintext has this place, or ends there.
-pub record Reaches (place : ℕ) (sealed : Stretch) : Type 0 where
+pub record ReachesPlace (place : ℕ) (sealed : Stretch) : Type 0 where
   pub len : ℕ
   pub plain : plain_len (length sealed.bytes) ≡ Some len
   pub inside : place ≤ len

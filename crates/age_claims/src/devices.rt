@@ -5,7 +5,7 @@ ghost use Rattle.age.specs.Encrypting.{Prepares};
 ghost use Rattle.age.specs.Identities.{FirstAnswer};
 ghost use Rattle.age.specs.Reading.{IsQuiet};
 ghost use Rattle.age.specs.Several.{BelongsToOne};
-ghost use Rattle.age.specs.FileLaws.{KeepsApart};
+ghost use Rattle.age.specs.FileLaws.{PreparesApart};
 ghost use Rattle.age_claims.specs.Claims.{CarriesFor, RefusesBack, RefusesRekeying};
 
 use age::armor::Format;
@@ -31,12 +31,13 @@ fn text_from<S: Suite, T: Recipient, I: Identity, R: Read>(
 ) -> Result<Vec<u8>, FileError>
     ensures ended { IsTrue (R.tells reader.old) → OnOk result (IsTrue (R.rest reader.old).ends_well) }
     ensures text { IsTrue (R.tells reader.old && R.steady reader.old) → (one : I) → BelongsToOne T.wraps I.unwraps recipients.now one
-        → KeepsApart S.seal_of
+        → PreparesApart T.wraps recipients.now (Some grease) draw.old draw.new S.seal_of (R.rest reader.old).bytes
         → IfOk result (λ text. CarriesFor S.seal_of (FirstAnswer I.unwraps (one ∷ [])) (R.rest reader.old).bytes text.items) }
     ensures refused { IsTrue (R.tells reader.old) → IsTrue (R.rest reader.old).ends_well → IsQuiet (R.faults reader.old) (R.faults reader.new)
         → IfErr result (RefusesBack (λ refusal. Prepares T.wraps recipients.now (Some grease) draw.old (Err refusal) draw.new)
         (length (R.rest reader.old).bytes)) }
 {
+    // A fact for the proof alone.
     several_recipients::<S, T, I>();
     let mut text = Vec::new(alloc);
     match encrypt_all::<S, T, R, Vec<u8>>(
@@ -48,7 +49,8 @@ fn text_from<S: Suite, T: Recipient, I: Identity, R: Read>(
 }
 
 /// Encrypts what a reader still has to recipients in memory, bare or in armor, and decrypts the text to a writer, with an identity that belongs to
-/// one of the recipients. Both devices may fail, and interrupt. The suite keeps a full last chunk apart from one in the middle.
+/// one of the recipients. Both devices may fail, and interrupt. A full last chunk of
+/// the file doesn't open as one in the middle too.
 ///
 /// - `all`: a success says, however often a device failed, that the reader's rest ended well, and that the writer was given just its bytes.
 /// - `front`: whatever it answers, the writer was given a beginning of these bytes, and nothing else.
@@ -65,17 +67,21 @@ pub fn kept_between_devices<S: Suite, T: Recipient, I: Identity, R: Read, W: Wri
     writer: &mut W,
 ) -> Result<(), FileError>
     ensures all { IsTrue (R.tells reader.old && R.steady reader.old) → IsTrue (W.tells writer.old) → (one : I) → identities.old ≡ one ∷ []
-        → BelongsToOne T.wraps I.unwraps recipients.now one → KeepsApart S.seal_of
+        → BelongsToOne T.wraps I.unwraps recipients.now one
+        → PreparesApart T.wraps recipients.now (Some grease) draw.old draw.new S.seal_of (R.rest reader.old).bytes
         → OnOk result (IsTrue (R.rest reader.old).ends_well × W.appended writer.old (R.rest reader.old).bytes writer.new) }
     ensures front { IsTrue (R.tells reader.old && R.steady reader.old) → IsTrue (W.tells writer.old) → (one : I) → identities.old ≡ one ∷ []
-        → BelongsToOne T.wraps I.unwraps recipients.now one → KeepsApart S.seal_of
+        → BelongsToOne T.wraps I.unwraps recipients.now one
+        → PreparesApart T.wraps recipients.now (Some grease) draw.old draw.new S.seal_of (R.rest reader.old).bytes
         → AppendsFront W.appended (R.rest reader.old).bytes writer.old writer.new }
     ensures why { IsTrue (R.tells reader.old && R.steady reader.old) → IsTrue (R.rest reader.old).ends_well
         → IsQuiet (R.faults reader.old) (R.faults reader.new) → (one : I) → identities.old ≡ one ∷ []
-        → BelongsToOne T.wraps I.unwraps recipients.now one → KeepsApart S.seal_of
+        → BelongsToOne T.wraps I.unwraps recipients.now one
+        → PreparesApart T.wraps recipients.now (Some grease) draw.old draw.new S.seal_of (R.rest reader.old).bytes
         → IfErr result (RefusesRekeying (λ refusal. Prepares T.wraps recipients.now (Some grease) draw.old (Err refusal) draw.new)
         W.refuses writer.old (length (R.rest reader.old).bytes)) }
 {
+    // Facts for the proof alone.
     one_plaintext::<S>();
     carried_is_unique();
     let file = match text_from::<S, T, I, R>(alloc, recipients, draw, grease, format, reader) {

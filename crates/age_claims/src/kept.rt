@@ -2,7 +2,7 @@
 ghost use Rattle.std.specs.Prelude.{◌≡◌, [], ◌∷◌, Some, Err, MatchResult, length};
 ghost use Rattle.age.specs.Several.{BelongsToOne};
 ghost use Rattle.age.specs.Encrypting.{Prepares};
-ghost use Rattle.age.specs.FileLaws.{KeepsApart};
+ghost use Rattle.age.specs.FileLaws.{PreparesApart};
 ghost use Rattle.age_claims.specs.Claims.{RefusesBack};
 
 use crate::texts::text_for;
@@ -19,7 +19,7 @@ use std::alloc::Global;
 
 /// Encrypts a plaintext to recipients in memory, bare or in armor, and decrypts the text with an identity: the plaintext.
 ///
-/// The identity belongs to one of the recipients, and the suite keeps a full last chunk apart from one in the middle. Then a success is the
+/// The identity belongs to one of the recipients, and a full last chunk of the file doesn't open as one in the middle too. Then a success is the
 /// plaintext. A refusal is want of memory, or `TooLong` of a plaintext of more than 2^60 bytes, or one of the encryption, to which the
 /// recipients and the random bytes came.
 pub fn kept<S: Suite, T: Recipient, I: Identity>(
@@ -31,10 +31,12 @@ pub fn kept<S: Suite, T: Recipient, I: Identity>(
     format: Format,
     plain: &[u8],
 ) -> Result<Vec<u8>, FileError>
-    ensures { (one : I) → identities.old ≡ one ∷ [] → BelongsToOne T.wraps I.unwraps recipients.now one → KeepsApart S.seal_of →
+    ensures { (one : I) → identities.old ≡ one ∷ [] → BelongsToOne T.wraps I.unwraps recipients.now one →
+        PreparesApart T.wraps recipients.now (Some grease) draw.old draw.new S.seal_of plain.now →
         MatchResult result (λ given. given.items ≡ plain.now)
         (RefusesBack (λ refusal. Prepares T.wraps recipients.now (Some grease) draw.old (Err refusal) draw.new) (length plain.now)) }
 {
+    // Facts for the proof alone.
     one_plaintext::<S>();
     carried_is_unique();
     let file = match text_for::<S, T, I>(alloc, recipients, draw, grease, format, plain) {

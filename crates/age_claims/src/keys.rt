@@ -14,6 +14,7 @@ use std::alloc::{AllocError, Global};
 pub fn one_key_of_a_text<S>(one: &Recipient<S>, other: &Recipient<S>)
     ensures { bech32_text recipient_prefix one.now ≡ bech32_text recipient_prefix other.now → one.now ≡ other.now }
 {
+    // Facts for the proof alone.
     text_laws();
     known_recipient(one);
     known_recipient(other);
@@ -25,6 +26,7 @@ pub fn printed_recipient<S>(alloc: Global, recipient: &Recipient<S>) -> Result<S
     ensures text { IfOk result (λ text. string_bytes text ≡ bech32_text recipient_prefix recipient.now) }
     ensures case { IfOk result (λ text. has_upper (string_bytes text) ≡ false) }
 {
+    // Facts for the proof alone.
     text_laws();
     known_recipient(recipient);
     recipient.to_string(alloc)
@@ -40,6 +42,7 @@ pub fn printed_identity<S>(
     ensures text { IfOk result (λ text. text ≡ bech32_text identity_prefix identity.now) }
     ensures case { IfOk result (λ text. has_lower text ≡ false) }
 {
+    // Facts for the proof alone.
     text_laws();
     known_identity(identity);
     identity.to_string(alloc)

@@ -29,6 +29,7 @@ fn file_of<S: Suite, T: Recipient>(
     ensures { IfOk result (λ text. (prepared : Prepared) × Prepares T.wraps recipients.now (Some grease) draw.old (Ok prepared) draw.new
         × IsWritten S.seal_of (text_of format) plain.now prepared text.items) }
 {
+    // For the proof alone: these are bytes, each below 256.
     known_bytes(plain);
     let mut text = Vec::new(alloc);
     let mut input = Bytes::new(plain);

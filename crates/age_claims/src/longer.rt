@@ -1,14 +1,13 @@
 //! Bytes added to a file, or cut from it.
-ghost use Rattle.std.specs.Prelude.{◌≡◌, ◌≤◌, ◌*◌, ℕ, List, [], ◌∷◌, ◌++◌, length, take, IsTrue, IfOk, OnOk};
+ghost use Rattle.std.specs.Prelude.{◌≡◌, ◌≤◌, ◌*◌, ◌-◌, ℕ, List, [], ◌∷◌, ◌++◌, length, take, IsTrue, IfOk, OnOk};
 ghost use Rattle.age.specs.Armor.{Carries};
 ghost use Rattle.age.specs.Bytes.{AreBytes};
 ghost use Rattle.age.specs.Copying.{AppendsFront};
 ghost use Rattle.age.specs.File.{IsFileOf};
 ghost use Rattle.age.specs.Identities.{FirstAnswer, IsFileFor};
-ghost use Rattle.age.specs.Payload.{last_piece};
+ghost use Rattle.age.specs.Payload.{last_piece, payload_key};
 ghost use Rattle.age.specs.Stanza.{StanzaValue};
-ghost use Rattle.age.specs.FileLaws.{KeepsApart};
-ghost use Rattle.age_claims.specs.Claims.{first_chunks};
+ghost use Rattle.age_claims.specs.Claims.{HasNoLastSeal, first_chunks};
 
 use age::armor::laws::{carried_is_delivered, carried_is_unique};
 use age::format::laws::{header_text_reads_back, verdict_is_unique};
@@ -27,6 +26,7 @@ pub fn no_longer_file<S: Suite>()
         → IsFileOf S.seal_of key stanzas plain file → IsFileOf S.seal_of other others given (file ++ more)
         → length plain ≡ length given → more ≡ [] }
 {
+    // Facts for the proof alone.
     header_text_reads_back();
     verdict_is_unique();
     payload_laws::<S>();
@@ -47,6 +47,7 @@ pub fn lengthened_or_cut<S: Suite, I: Identity>(
         → IsFileOf S.seal_of key stanzas plain (front ++ more) → Carries text.now front
         → IfOk result (λ given. length given.items ≡ length plain → more ≡ []) }
 {
+    // Facts for the proof alone.
     no_longer_file::<S>();
     carried_is_unique();
     decrypt::<S, I>(alloc, identity, text)
@@ -54,17 +55,19 @@ pub fn lengthened_or_cut<S: Suite, I: Identity>(
 
 /// Decrypts a text, bare or in armor, that carries a file which was cut between two of its chunks, or before the first: it doesn't succeed.
 ///
-/// The file is one for the identity, the text carries its header, its nonce and its first `n` chunks, which aren't all, and the suite keeps a
-/// full last chunk apart from one in the middle.
+/// The file is one for the identity, and the text carries its header, its nonce and its first `n` chunks, which aren't all. The last of these, a
+/// middle chunk of the file, doesn't open as a last one too.
 pub fn cut_between_chunks<S: Suite, I: Identity>(
     alloc: Global,
     identity: &mut I,
     text: &[u8],
 ) -> Result<Vec<u8>, DecryptError>
-    ensures { KeepsApart S.seal_of → (file plain : List ℕ) (n : ℕ) →
+    ensures { (file plain : List ℕ) (n : ℕ) →
         (for : IsFileFor S.seal_of (FirstAnswer I.unwraps (identity.old ∷ [])) plain file) → n ≤ last_piece (length plain) →
+        HasNoLastSeal S.seal_of (payload_key for.file_key for.is_file.nonce) plain (n - 1) →
         Carries text.now (first_chunks S.seal_of for n) → IfOk result (λ given. ⊥) }
 {
+    // Facts for the proof alone.
     header_text_reads_back();
     verdict_is_unique();
     carried_is_unique();
@@ -76,7 +79,7 @@ pub fn cut_between_chunks<S: Suite, I: Identity>(
 /// Decrypts such a text to a writer that tells its bytes: it appends a beginning of the plaintext, and doesn't succeed.
 ///
 /// - `front`: whatever it answers, it appended a beginning of the plaintext of the chunks before the cut.
-/// - `refused`: it doesn't succeed, where the suite keeps a full last chunk apart from one in the middle.
+/// - `refused`: it doesn't succeed, where the last of these chunks doesn't open as a last one too.
 pub fn decrypted_up_to_the_cut<S: Suite, I: Identity, W: Write>(
     alloc: Global,
     identities: &mut [I],
@@ -86,10 +89,12 @@ pub fn decrypted_up_to_the_cut<S: Suite, I: Identity, W: Write>(
     ensures front { IsTrue (W.tells writer.old) → (file plain : List ℕ) (n : ℕ) →
         (for : IsFileFor S.seal_of (FirstAnswer I.unwraps identities.old) plain file) → n ≤ last_piece (length plain) →
         Carries text.now (first_chunks S.seal_of for n) → AppendsFront W.appended (take (65536 * n) plain) writer.old writer.new }
-    ensures refused { IsTrue (W.tells writer.old) → KeepsApart S.seal_of → (file plain : List ℕ) (n : ℕ) →
+    ensures refused { IsTrue (W.tells writer.old) → (file plain : List ℕ) (n : ℕ) →
         (for : IsFileFor S.seal_of (FirstAnswer I.unwraps identities.old) plain file) → n ≤ last_piece (length plain) →
+        HasNoLastSeal S.seal_of (payload_key for.file_key for.is_file.nonce) plain (n - 1) →
         Carries text.now (first_chunks S.seal_of for n) → OnOk result ⊥ }
 {
+    // Facts for the proof alone.
     header_text_reads_back();
     verdict_is_unique();
     carried_is_unique();

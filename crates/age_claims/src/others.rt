@@ -28,6 +28,7 @@ pub fn refused_as_answered<S: Suite, I: Identity>(
         → AnswersAlways I.unwraps stanzas this identity.old
         → MatchResult result (λ given. ⊥) (λ e. (decrypt_refusal e ≡ why) ⊎ (decrypt_refusal e ≡ OutOfMemory)) }
 {
+    // Facts for the proof alone.
     header_text_reads_back();
     verdict_is_unique();
     carried_is_delivered();

@@ -4,7 +4,7 @@ ghost use Rattle.age.specs.ErrorVariants.{PastEnd};
 ghost use Rattle.age.specs.Parts.{EndsBefore};
 ghost use Rattle.age.specs.Reading.{TriedAgain};
 ghost use Rattle.age.specs.StreamReader.{inner_of, payload_of, tells_of};
-ghost use Rattle.age_claims.specs.Claims.{Reaches};
+ghost use Rattle.age_claims.specs.Claims.{ReachesPlace};
 
 use age::io::{Error, Seek, SeekFrom};
 use age::stream::StreamReader;
@@ -19,7 +19,7 @@ pub fn read_inside<S: Suite, R: Seek>(
     place: u64,
     buf: &mut [u8],
 ) -> Result<usize, Error>
-    ensures inside { IsTrue (tells_of reader.old) → IfOk result (λ count. Reaches place (payload_of reader.old)) }
+    ensures inside { IsTrue (tells_of reader.old) → IfOk result (λ count. ReachesPlace place (payload_of reader.old)) }
     ensures outside { IsTrue (tells_of reader.old) → (TriedAgain R.refuses (inner_of reader.old) PastEnd → ⊥) →
         IfErr result (λ e. e ≡ PastEnd → EndsBefore place (payload_of reader.old)) }
 {

@@ -3,7 +3,7 @@ ghost use Rattle.std.specs.Prelude.{◌≡◌, ◌≤◌, [], ◌∷◌, length,
 ghost use Rattle.age.specs.Encrypting.{Prepares};
 ghost use Rattle.age.specs.Several.{BelongsToOne};
 ghost use Rattle.age.specs.Replies.{seen, gave, at, IsNoWant};
-ghost use Rattle.age.specs.FileLaws.{KeepsApart};
+ghost use Rattle.age.specs.FileLaws.{PreparesApart};
 ghost use Rattle.age_claims.specs.Claims.{RefusesBack};
 
 use crate::texts::text_for;
@@ -19,7 +19,7 @@ use std::alloc::Global;
 /// Encrypts a plaintext to recipients in memory, bare or in armor, opens the text with an identity, seeks to a place and reads: the slice that
 /// stands there.
 ///
-/// The identity belongs to one of the recipients, the suite keeps a full last chunk apart from one in the middle, and the place isn't after the
+/// The identity belongs to one of the recipients, a full last chunk of the file doesn't open as one in the middle too, and the place isn't after the
 /// end. Then a success answers this place and the `count` bytes from there on, fewer where the plaintext ends, or one of the two answers is
 /// want of memory. It refuses as `kept` does.
 pub fn slice_of<S: Suite, T: Recipient, I: Identity>(
@@ -33,7 +33,8 @@ pub fn slice_of<S: Suite, T: Recipient, I: Identity>(
     place: u64,
     count: usize,
 ) -> Result<Vec<Answer>, FileError>
-    ensures { (one : I) → identities.old ≡ one ∷ [] → BelongsToOne T.wraps I.unwraps recipients.now one → KeepsApart S.seal_of →
+    ensures { (one : I) → identities.old ≡ one ∷ [] → BelongsToOne T.wraps I.unwraps recipients.now one →
+        PreparesApart T.wraps recipients.now (Some grease) draw.old draw.new S.seal_of plain.now →
         place ≤ length plain.now → MatchResult result (λ answers. All IsNoWant answers.items →
         map seen answers.items ≡ at place ∷ gave (take count (drop place plain.now)) ∷ [])
         (RefusesBack (λ refusal. Prepares T.wraps recipients.now (Some grease) draw.old (Err refusal) draw.new) (length plain.now)) }

@@ -44,6 +44,7 @@ fn opened<S: Suite, I: Identity, R: Read + Drop>(
     match open_file::<S, I, ArmoredReader<BufReader<R>>>(alloc, identities, text) {
         Err(error) => Err(FileError::Decrypt(error)),
         Ok(stream) => {
+            // A fact for the proof alone.
             reader_law(&stream);
             Ok(stream)
         }

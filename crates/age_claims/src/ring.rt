@@ -26,6 +26,7 @@ pub fn decrypted_by_one_of_many<S: Suite, I: Identity>(
         (for : IsFileFor S.seal_of (FirstAnswer I.unwraps (one ∷ [])) plain file) → All (AnswersAlways I.unwraps for.stanzas None) front →
         MatchResult result (λ given. given.items ≡ plain) IsWant }
 {
+    // Facts for the proof alone.
     one_plaintext::<S>();
     carried_is_unique();
     let mut given = Vec::new(alloc);

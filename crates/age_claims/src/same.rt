@@ -22,6 +22,7 @@ pub fn decrypted_twice<S: Suite, I: Identity>(
 ) -> Result<(Vec<u8>, Vec<u8>), FileError>
     ensures { others.old ≡ one.old ∷ [] → GiveOneKey I.unwraps others.old → IfOk result (λ both. both.0.items ≡ both.1.items) }
 {
+    // Facts for the proof alone.
     one_plaintext::<S>();
     carried_is_unique();
     let first = match decrypt::<S, I>(alloc, one, file) {

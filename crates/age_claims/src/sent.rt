@@ -23,6 +23,7 @@ pub fn sent_so_far<S: Suite, W: Write>(
     ensures { IsTrue (W.tells (inner_of writer.old)) →
         HasBegun S.seal_of W.appended ⟦<StreamWriter<S, W> as Write>⟧.appended writer.old bytes.now writer.new }
 {
+    // A fact for the proof alone.
     sent_law::<S, W>();
     writer.write(bytes)
 }
@@ -41,6 +42,7 @@ pub fn copied_so_far<S: Suite, R: Read, W: Write>(
     ensures { IsTrue (R.tells reader.old) → IsTrue (W.tells (inner_of writer.old)) →
         HasBegun S.seal_of W.appended ⟦<StreamWriter<S, W> as Write>⟧.appended writer.old (R.rest reader.old).bytes writer.new }
 {
+    // A fact for the proof alone.
     sent_law::<S, W>();
     copy_all(alloc, reader, writer)
 }
@@ -62,6 +64,7 @@ pub fn encrypted_so_far<S: Suite, R: Read, W: Write>(
     ensures whole { IsTrue (R.tells reader.old) → IsTrue (W.tells output) → OnOk result.1 (IsTrue (R.rest reader.old).ends_well
         × W.appended output (file_text S.seal_of encryptor.file_key encryptor.stanzas encryptor.nonce (R.rest reader.old).bytes) result.0) }
 {
+    // A fact for the proof alone.
     sent_law::<S, W>();
     match encryptor.begin(alloc, output) {
         Err((output, error)) => (output, Err(error)),

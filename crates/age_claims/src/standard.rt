@@ -1,8 +1,8 @@
 //! A file of the standard to one's own key, in armor.
-ghost use Rattle.std.specs.Prelude.{◌≡◌, [], ◌∷◌, MatchResult};
+ghost use Rattle.std.specs.Prelude.{◌≡◌, [], ◌∷◌, MatchResult, Some};
 ghost use Rattle.age.specs.Several.{BelongsToOne};
 ghost use Rattle.age.specs.FileErrors.{IsDecryptError, IsWant};
-ghost use Rattle.age.specs.FileLaws.{KeepsApart};
+ghost use Rattle.age.specs.FileLaws.{PreparesApart};
 
 use age::draw::Draw;
 use age::format::Grease;
@@ -17,7 +17,7 @@ use std::alloc::Global;
 
 /// Encrypts a plaintext to one recipient, in armor, and decrypts the text with one identity: the plaintext.
 ///
-/// The identity belongs to the recipient, and the suite keeps a full last chunk apart from one in the middle. Then a success is the plaintext,
+/// The identity belongs to the recipient, and a full last chunk of the file doesn't open as one in the middle too. Then a success is the plaintext,
 /// and an error of decryption is want of memory.
 pub fn armored_and_back<S: Suite, T: Recipient, I: Identity>(
     alloc: Global,
@@ -27,9 +27,11 @@ pub fn armored_and_back<S: Suite, T: Recipient, I: Identity>(
     grease: Grease,
     plain: &[u8],
 ) -> Result<Vec<u8>, FileError>
-    ensures { BelongsToOne T.wraps I.unwraps (recipient.now ∷ []) identity.old → KeepsApart S.seal_of →
+    ensures { BelongsToOne T.wraps I.unwraps (recipient.now ∷ []) identity.old →
+        PreparesApart T.wraps (recipient.now ∷ []) (Some grease) draw.old draw.new S.seal_of plain.now →
         MatchResult result (λ given. given.items ≡ plain.now) (λ e. IsDecryptError e → IsWant e) }
 {
+    // Facts for the proof alone.
     several_recipients::<S, T, I>();
     known_bytes(plain);
     let text = match encrypt_and_armor::<S, T>(alloc, recipient, plain, draw, grease) {
@@ -50,9 +52,12 @@ pub fn standard_key(
     grease: Grease,
     plain: &[u8],
 ) -> Result<Vec<u8>, FileError>
-    ensures { KeepsApart ⟦<StandardSuite as Suite>⟧.seal_of →
+    ensures { let suite = ⟦<StandardSuite as Suite>⟧ in
+        PreparesApart ⟦<x25519::Recipient<StandardSuite> as Recipient>⟧.wraps (suite.public_of identity.old ∷ []) (Some grease) draw.old draw.new
+        suite.seal_of plain.now →
         MatchResult result (λ given. given.items ≡ plain.now) (λ e. IsDecryptError e → IsWant e) }
 {
+    // A fact for the proof alone.
     x25519_pair::<StandardSuite>(identity);
     let recipient = identity.to_public();
     armored_and_back::<

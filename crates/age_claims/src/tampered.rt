@@ -31,6 +31,7 @@ pub fn decrypted_beside_a_file<S: Suite, I: Identity>(
         let front = file_front for.file_key for.stanzas for.is_file.nonce in Carries text.now (front ++ rest) →
         IfOk result (λ given. given.items ≡ plain → front ++ rest ≡ file) }
 {
+    // Facts for the proof alone.
     header_text_reads_back();
     verdict_is_unique();
     carried_is_unique();

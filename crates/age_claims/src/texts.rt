@@ -3,7 +3,7 @@ ghost use Rattle.std.specs.Prelude.{[], ◌∷◌, Some, Err, IfOk, IfErr, lengt
 ghost use Rattle.age.specs.Encrypting.{Prepares};
 ghost use Rattle.age.specs.Identities.{FirstAnswer};
 ghost use Rattle.age.specs.Several.{BelongsToOne};
-ghost use Rattle.age.specs.FileLaws.{KeepsApart};
+ghost use Rattle.age.specs.FileLaws.{PreparesApart};
 ghost use Rattle.age_claims.specs.Claims.{CarriesFor, RefusesBack};
 
 use age::armor::Format;
@@ -26,11 +26,13 @@ pub(crate) fn text_for<S: Suite, T: Recipient, I: Identity>(
     format: Format,
     plain: &[u8],
 ) -> Result<Vec<u8>, FileError>
-    ensures text { (one : I) → BelongsToOne T.wraps I.unwraps recipients.now one → KeepsApart S.seal_of →
+    ensures text { (one : I) → BelongsToOne T.wraps I.unwraps recipients.now one →
+        PreparesApart T.wraps recipients.now (Some grease) draw.old draw.new S.seal_of plain.now →
         IfOk result (λ text. CarriesFor S.seal_of (FirstAnswer I.unwraps (one ∷ [])) plain.now text.items) }
     ensures refused { IfErr result (RefusesBack
         (λ refusal. Prepares T.wraps recipients.now (Some grease) draw.old (Err refusal) draw.new) (length plain.now)) }
 {
+    // Facts for the proof alone.
     several_recipients::<S, T, I>();
     known_bytes(plain);
     let mut file = Vec::new(alloc);

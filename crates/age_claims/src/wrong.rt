@@ -35,6 +35,7 @@ pub fn refused_by_another_passphrase<S: Suite>(
         → S.opened (S.stretch_of identity.old.passphrase (stretch_salt salt) recipient.factor) no_nonce body ≡ None)
         → MatchResult result (λ given. ⊥) (λ e. (decrypt_refusal e ≡ DecryptionFailed) ⊎ (decrypt_refusal e ≡ OutOfMemory)) }
 {
+    // Facts for the proof alone.
     passphrase_files::<S>();
     several_recipients::<S, Recipient<S>, Identity<S>>();
     refused_as_answered::<S, Identity<S>>(alloc, identity, text)
@@ -53,6 +54,7 @@ pub fn refused_by_another_key<S: Suite>(
         → All (IsUnopened S.opened S.shared_of S.public_of identity.old) stanzas
         → MatchResult result (λ given. ⊥) (λ e. (decrypt_refusal e ≡ NoMatchingKeys) ⊎ (decrypt_refusal e ≡ OutOfMemory)) }
 {
+    // A fact for the proof alone.
     x25519_pair::<S>(identity);
     refused_as_answered::<S, x25519::Identity<S>>(alloc, identity, text)
 }

@@ -35,7 +35,8 @@ impl<'a> Calls<'a> {
     /// How many bytes the next call may move, or its fault, which is counted. After 2^64 - 2 faults none comes any more.
     pub(crate) fn next(&mut self) -> Result<usize, Error>
         ensures told { faults_in self.old < most_failures → result ≡ by_step (call_of self.old 0) Ok }
-        ensures step { faults_in self.old < most_failures → TakesStep (call_of self.old) (call_of self.new) (faults_in self.old) (faults_in self.new) }
+        ensures step { faults_in self.old < most_failures
+            → TakesStep (call_of self.old) (call_of self.new) (faults_in self.old) (faults_in self.new) }
         ensures last { most_failures ≤ faults_in self.old → IsOk result }
         ensures fine { IfOk result (λ _. faults_in self.new ≡ faults_in self.old) }
         ensures fault { IfErr result (λ e. IsDevice e × (faults_in self.new ≡ faults_in self.old + 1)) }

@@ -1,10 +1,11 @@
 //! A device that is written.
-ghost use Rattle.std.specs.Prelude.{◌≡◌, ℕ, ◌+◌, ◌^◌, ◌≤◌, ◌<◌, ◌⊎◌, true, [], ◌++◌, length, min, Ok, Err, IfErr, OnErr};
+ghost use Rattle.std.specs.Prelude.{◌≡◌, ℕ, ◌+◌, ◌≤◌, ◌<◌, ◌⊎◌, true, [], ◌++◌, length, min, Ok, Err, IfErr, OnErr};
 ghost use Rattle.std.proofs.Common.{arith};
 ghost use Rattle.std.proofs.lemmas.Grind.{common_steps};
 ghost use Rattle.age_error.specs.Refusals.{IsDevice};
 ghost use Rattle.age_error.specs.declared.io.Error.TheVariants.{OutOfMemory, WriteZero};
-ghost use Rattle.age_io.specs.Writing.{Writes, Flushes};
+ghost use Rattle.age_io.specs.Writing.{Flushes};
+ghost use Rattle.age_io.specs.Calls.{WritesBy};
 ghost use Rattle.age_devices.specs.Devices.{by_step, TakesStep, most_failures};
 
 use crate::calls::Calls;
@@ -73,11 +74,11 @@ impl<'a> Write for Sink<'a> {
 
     ghost joins = { λ a b c x y p q. Prim.grind (arith, common_steps) };
 
-    /// Takes the first bytes, as many as its script says of this call, or all. Or it fails as the script says: `Device(kind)`, one fault more, and has taken
-    /// none. After 2^64 - 2 faults it fails no more. Where the list of what it keeps can't grow it answers `OutOfMemory`, and has taken none.
+    /// Takes the first bytes, as many as its script says of this call, or all. Or it fails as the script
+    /// says: `Device(kind)`, one fault more, and has taken none. After 2^64 - 2 faults it fails no more.
+    /// Where the list of what it keeps can't grow it answers `OutOfMemory`, and has taken none.
     fn write(&mut self, bytes: &[u8]) -> Result<usize, Error>
-        ensures writes { let writer = ⟦<Sink<'a> as Write>⟧ in
-            Writes writer.tells writer.faults writer.refuses writer.appended self.old self.new bytes.now result }
+        ensures writes { WritesBy ⟦<Sink<'a> as Write>⟧ self.old self.new bytes.now result }
         ensures step { faults_of self.old < most_failures → TakesStep (call self.old) (call self.new) (faults_of self.old) (faults_of self.new) }
         ensures answer { faults_of self.old < most_failures →
             (result ≡ by_step (call self.old 0) (λ most. Ok (min (length bytes.now) most))) ⊎ (result ≡ Err OutOfMemory) }

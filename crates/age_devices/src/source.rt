@@ -4,10 +4,8 @@ ghost use Rattle.std.proofs.Common.{inl, arith};
 ghost use Rattle.age_error.specs.Bytes.{AreBytes};
 ghost use Rattle.age_error.specs.Refusals.{IsDevice};
 ghost use Rattle.age_io.specs.Stretch.{whole, from_place};
-ghost use Rattle.age_io.specs.Reading.{Reads};
-ghost use Rattle.age_io.specs.Filling.{Consumes};
 ghost use Rattle.age_io.specs.Cursor;
-ghost use Rattle.age_io.specs.Cursor.{Seeks};
+ghost use Rattle.age_io.specs.Calls.{ConsumesBy, ReadsBy, SeeksBy};
 ghost use Rattle.age_devices.specs.Devices.{by_step, TakesStep, most_failures};
 
 use crate::calls::Calls;
@@ -98,11 +96,10 @@ impl<'a> Read for Source<'a> {
 
     ghost place_fits = { λ r _. Prim.omega (arith, r.order, r.within, r.short) };
 
-    /// Gives the next bytes, at most as many as its script says of this call, but one at least where one is left, and leaves the buffer behind them as it
-    /// was. Or it fails as the script says: `Device(kind)`, one fault more, and its place stays. After 2^64 - 2 faults it fails no more.
+    /// Gives the next bytes, at most as many as its script says of this call, but one at least where one is left, and leaves the buffer behind them
+    /// as it was. Or it fails as the script says: `Device(kind)`, one fault more, and its place stays. After 2^64 - 2 faults it fails no more.
     fn read(&mut self, buf: &mut [u8]) -> Result<usize, Error>
-        ensures reads { let reader = ⟦<Source<'a> as Read>⟧ in
-            Reads reader.tells reader.steady reader.content reader.place reader.rest reader.faults reader.refuses self.old self.new buf.new result }
+        ensures reads { ReadsBy ⟦<Source<'a> as Read>⟧ self.old self.new buf.new result }
         ensures step { faults_of self.old < most_failures → TakesStep (call self.old) (call self.new) (faults_of self.old) (faults_of self.new) }
         ensures answer { faults_of self.old < most_failures → result ≡ by_step (call self.old 0) (λ most.
             Ok (min (min (length buf.old) (max most 1)) (length (bytes_of self.old) - place_of self.old))) }
@@ -144,8 +141,7 @@ impl<'a> BufRead for Source<'a> {
     /// Takes the first `amount` bytes of what was shown. It is no call of the device.
     fn consume(&mut self, amount: usize)
         requires { amount ≤ length (shown_of self.old) }
-        ensures consumes { let reader = ⟦<Source<'a> as Read>⟧ in
-            Consumes reader.tells reader.steady reader.content reader.place reader.rest reader.faults reader.refuses (λ r. shown_of r) self.old self.new amount }
+        ensures consumes { ConsumesBy ⟦<Source<'a> as Read>⟧ (λ r. shown_of r) self.old self.new amount }
         ensures script { (i : ℕ) → call self.new i ≡ call self.old i }
     {
         self.place += amount;
@@ -159,11 +155,10 @@ impl<'a> Seek for Source<'a> {
 
     ghost no_device = { λ _ none _. none };
 
-    /// Moves to a target from 0 to the slice's length, however few bytes its script says, or fails as the script says: `Device(kind)`, one fault more. It
-    /// stays where it was then, and where it refuses with `BeforeStart` or `PastEnd`. After 2^64 - 2 faults it fails no more.
+    /// Moves to a target from 0 to the slice's length, however few bytes its script says, or fails as the script says: `Device(kind)`, one
+    /// fault more. It stays where it was then, and where it refuses with `BeforeStart` or `PastEnd`. After 2^64 - 2 faults it fails no more.
     fn seek(&mut self, to: SeekFrom) -> Result<u64, Error>
-        ensures seeks { let reader = ⟦<Source<'a> as Read>⟧ in
-            Seeks reader.tells reader.steady reader.content reader.place reader.rest reader.faults reader.refuses (λ _. ⊥) self.old self.new to result }
+        ensures seeks { SeeksBy ⟦<Source<'a> as Read>⟧ (λ _. ⊥) self.old self.new to result }
         ensures step { faults_of self.old < most_failures → TakesStep (call self.old) (call self.new) (faults_of self.old) (faults_of self.new) }
         ensures answer { faults_of self.old < most_failures → result ≡ by_step (call self.old 0) (λ _.
             Cursor.sought to (place_of self.old) (length (bytes_of self.old))) }

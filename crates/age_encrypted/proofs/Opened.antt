@@ -43,7 +43,8 @@ module _ {S R : Type 0} (suite : SuiteMembers S) (read : ReadMembers R) (stream_
   holds entries stream file reads = (Ok (entries file), reads_entries stream_read most_file_bytes entries stream (Ok file) reads, refl)
 
   pub holds_none : {A : Type 0} (entries : A → List Entry) (stream : StreamReader S R suite read) (e : Error)
-      → ReadsFile stream_read most_file_bytes entries stream (Err e) → HoldsEntries suite stream_read (Ok stream) (Err (decrypt_refusal (decrypt_of_io e)))
+      → ReadsFile stream_read most_file_bytes entries stream (Err e)
+      → HoldsEntries suite stream_read (Ok stream) (Err (decrypt_refusal (decrypt_of_io e)))
   holds_none entries stream e reads = (Err e, reads_entries stream_read most_file_bytes entries stream (Err e) reads, refl)
 
   -- of a stream that tells what its payload does, and delivers the plaintext
@@ -64,7 +65,8 @@ module _ {S R : Type 0} (suite : SuiteMembers S) (read : ReadMembers R) (stream_
         let stream_told : IsTrue (stream_read.tells stream) = subst (λ b. IsTrue b) (sym (tells_same stream ∙ opens.reader.tells)) told in
         let own = r.file stream_told in
         let well : IsTrue (plain_rest_of stream).ends_well = subst (λ s. IsTrue s.ends_well) (rest_same stream) own.well in
-        let made = opens.file told start place (plain_rest_of stream).bytes front (is_whole (plain_rest_of stream).ends_well (plain_rest_of stream).bytes well) in
+        let made = opens.file told start place (plain_rest_of stream).bytes front
+        (is_whole (plain_rest_of stream).ends_well (plain_rest_of stream).bytes well) in
         record {
           file_key = key;
           plain = (plain_rest_of stream).bytes;
@@ -78,7 +80,8 @@ module _ {S R : Type 0} (suite : SuiteMembers S) (read : ReadMembers R) (stream_
     module _ {C : Type 0} (gives : C → List ℕ → Option (List ℕ) → C → Type 0) (filename : Option (List ℕ)) (file : Protected R C) where
       -- so the entries that an opened stream held are those of the file
       stream_entries : (passphrase : List ℕ) (after : C) → gives file.callbacks (description filename) (Some passphrase) after
-          → (answer : UnwrapAnswer) → UnwrapsPassphrase suite (identity_under file passphrase) file.header.stanzas answer (identity_under file passphrase)
+          → (answer : UnwrapAnswer) → UnwrapsPassphrase suite (identity_under file passphrase) file.header.stanzas answer
+          (identity_under file passphrase)
           → (stream : StreamReader S R suite read) → AnswersReader (of_passphrase (decided answer)) file.header file.nonce file.input (Ok stream)
           → (entries : List Entry) (own : Result (List Entry) Error) → ReadsFile stream_read most_file_bytes (λ all. all) stream own
           → Ok entries ≡ result_map_both (λ all. all) (λ e. decrypt_refusal (decrypt_of_io e)) own
@@ -88,14 +91,17 @@ module _ {S R : Type 0} (suite : SuiteMembers S) (read : ReadMembers R) (stream_
           λ told start place front. (
             passphrase,
             given,
-            subst (λ all. IsFileOfEntries suite stream_read file.header.stanzas start (identity_under file passphrase) all) (sym (same_value entries (Ok own) is))
-                (plain_entries (λ all. all) file.header file.nonce file.input (identity_under file passphrase) stream own reads told start place front answer asked decrypts),
+            subst (λ all. IsFileOfEntries suite stream_read file.header.stanzas start (identity_under file passphrase) all)
+                (sym (same_value entries (Ok own) is))
+                (plain_entries (λ all. all) file.header file.nonce file.input
+                (identity_under file passphrase) stream own reads told start place front answer asked decrypts),
           )
 
       under_entries : (passphrase : List ℕ) (after : C) → gives file.callbacks (description filename) (Some passphrase) after
           → (entries : List Entry) (answer : UnwrapAnswer)
           → UnwrapsPassphrase suite (identity_under file passphrase) file.header.stanzas answer (identity_under file passphrase)
-          → (stream : Result (StreamReader S R suite read) DecryptError) → AnswersReader (of_passphrase (decided answer)) file.header file.nonce file.input stream
+          → (stream : Result (StreamReader S R suite read) DecryptError)
+          → AnswersReader (of_passphrase (decided answer)) file.header file.nonce file.input stream
           → HoldsEntries suite stream_read stream (Ok entries)
           → EntriesAreThose suite stream_read gives filename file (opened_by_asking after entries)
       under_entries passphrase after given entries answer asked (Err e) decrypts is = absurd (subst (λ r. IfErr r (λ _. ⊥)) is tt)
@@ -106,7 +112,8 @@ module _ {S R : Type 0} (suite : SuiteMembers S) (read : ReadMembers R) (stream_
           → (entries : Result (List Entry) DecryptRefusal) → OpensUnder suite stream_read file passphrase entries
           → IfOk entries (λ all. EntriesAreThose suite stream_read gives filename file (opened_by_asking after all))
       given_entries passphrase after given (Err refusal) under = tt
-      given_entries passphrase after given (Ok entries) under = under_entries passphrase after given entries under.answer under.asked under.stream under.decrypts under.entries
+      given_entries passphrase after given (Ok entries) under =
+          under_entries passphrase after given entries under.answer under.asked under.stream under.decrypts under.entries
 
       -- so whatever opened the file, its entries are those of the file
       pub opened_entries : (outcome : Result (List Entry) DecryptRefusal) (after : C) → Opens suite stream_read gives filename file outcome after
@@ -131,7 +138,8 @@ module _ {S R : Type 0} (suite : SuiteMembers S) (read : ReadMembers R) (stream_
         )
 
     -- the same where an error is answered
-    pub given_refuses : {A : Type 0} (words passphrase : List ℕ) (after : C) → words ≡ description filename → gives file.callbacks words (Some passphrase) after
+    pub given_refuses : {A : Type 0} (words passphrase : List ℕ) (after : C) → words ≡ description filename
+        → gives file.callbacks words (Some passphrase) after
         → (identity : PassphraseIdentity) → identity ≡ identity_under file passphrase
         → (stream : Result (StreamReader S R suite read) DecryptError)
         → ((answer : UnwrapAnswer) × UnwrapsPassphrase suite identity file.header.stanzas answer identity

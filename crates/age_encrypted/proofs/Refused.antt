@@ -91,5 +91,6 @@ module _ {S R : Type 0} (suite : SuiteMembers S) {read : ReadMembers R} (stream_
   opens_no_text gives filename file outcome after (inr (None, given, is)) = rw is (λ h. h)
   opens_no_text gives filename file outcome after (inr (Some passphrase, given, under)) =
       entries_no_text (of_passphrase (decided under.answer))
-      (decided_no_text under.answer (stanzas_no_text (identity_under file passphrase) file.header.stanzas under.answer (identity_under file passphrase) under.asked))
+      (decided_no_text under.answer (stanzas_no_text (identity_under file passphrase) file.header.stanzas under.answer
+      (identity_under file passphrase) under.asked))
       file.header file.nonce file.input under.stream under.decrypts outcome under.entries

@@ -30,7 +30,8 @@ module _ {S R C : Type 0} where
   filename_of identity = option_map (λ text. string_bytes text) identity.filename
 
   -- What a decryptor that was made of the front of a file is as a protected identity: none where the file isn't one of a passphrase.
-  abbrev pub IsMadeOf : Result (Decryptor S R) DecryptError → Option (List ℕ) → C → ℕ → Option ℕ → Result (Option (Identity S R C)) DecryptError → Type 0
+  abbrev pub IsMadeOf : Result (Decryptor S R) DecryptError → Option (List ℕ) → C → ℕ → Option ℕ → Result (Option (Identity S R C)) DecryptError
+      → Type 0
   IsMadeOf (Err e) filename callbacks target most result = IsErrAnd result (λ own. own ≡ e)
   IsMadeOf (Ok d) filename callbacks target most result = MatchResult result
       (λ made. MatchOption made (IsScrypt (header_of d).stanzas → ⊥) (λ identity. IsScrypt (header_of d).stanzas

@@ -73,4 +73,5 @@ module _ {S R : Type 0} (suite : SuiteMembers S) {read : ReadMembers R} (stream_
 
     -- What a use answers to stanzas: the file is opened unless it was, and then its identities are asked.
     abbrev pub Uses : State R C → List StanzaValue → UnwrapAnswer → State R C → Type 0
-    Uses before stanzas answer after = (opened : State R C) × OpensOnce before opened × AnswersOpened (is_encrypted before) opened stanzas answer after
+    Uses before stanzas answer after = (opened : State R C) × OpensOnce before opened
+        × AnswersOpened (is_encrypted before) opened stanzas answer after

@@ -142,7 +142,8 @@ impl<S: Suite, R: Read + Drop, C: Callbacks> EncryptedIdentity<S, R, C> {
         alloc: Global,
         filename: Option<&str>,
     ) -> Result<IdentityFile<S, C>, NotOpened<C>>
-        ensures opens { Opens ⟦<S as Suite>⟧ ⟦<StreamReader<S, R> as Read>⟧ C.gives_passphrase (option_map (λ name. name.now) filename.entry) (protected_of self)
+        ensures opens { Opens ⟦<S as Suite>⟧ ⟦<StreamReader<S, R> as Read>⟧ C.gives_passphrase (option_map (λ name. name.now) filename.entry)
+            (protected_of self)
             (result_map_both (λ file. entries_of file) (λ e. decrypt_refusal e.error) result) (callbacks_left result) }
         ensures entries { IfOk result (λ file. EntriesAreThose ⟦<S as Suite>⟧ ⟦<StreamReader<S, R> as Read>⟧ C.gives_passphrase
             (option_map (λ name. name.now) filename.entry) (protected_of self) (opened_by_asking (callbacks_of file) (entries_of file))) }

@@ -3,7 +3,6 @@ ghost use Rattle.std.specs.Prelude.{◌≡◌, ◌≤◌, List, Result, string_b
 ghost use Rattle.std.specs.Option.{option_map};
 ghost use Rattle.std.specs.Result.{result_map_both};
 ghost use Rattle.age_error.specs.DecryptErrors.{DecryptRefusal, OutOfMemory, decrypt_refusal};
-ghost use Rattle.age_error.specs.declared.decrypt.DecryptError.{DecryptError as Refused};
 ghost use Rattle.age_error.specs.EncryptErrors.{encrypt_refusal};
 ghost use Rattle.age_format.specs.Unwrapping.{unwrap_answer};
 ghost use Rattle.age_v1.specs.Identities.{Unwraps};
@@ -100,7 +99,8 @@ impl<S: Suite, R: Read + Drop, C: Callbacks> Identity<S, R, C> {
     ///   first.
     /// - those of `IdentityFile::to_recipients`: a plugin's identity, or want of memory. The file stays open.
     pub fn recipients(&mut self, alloc: Global) -> Result<Vec<x25519::Recipient<S>>, EncryptError>
-        ensures opens { OpensOnce ⟦<S as Suite>⟧ ⟦<StreamReader<S, R> as Read>⟧ C.gives_passphrase (filename_of self.old) (state_of self.old) (state_of self.new) }
+        ensures opens { OpensOnce ⟦<S as Suite>⟧ ⟦<StreamReader<S, R> as Read>⟧ C.gives_passphrase (filename_of self.old) (state_of self.old)
+            (state_of self.new) }
         ensures recipients { GivesRecipients S.public_of (state_of self.new)
             (result_map_both (λ recipients. recipients.items) (λ e. encrypt_refusal e) result) }
         ensures name { filename_of self.new ≡ filename_of self.old }
@@ -116,7 +116,8 @@ impl<S: Suite, R: Read + Drop, C: Callbacks> Identity<S, R, C> {
 
     // Opens the file, if nothing was tried yet. Whether it did.
     fn open(&mut self, alloc: Global) -> bool
-        ensures opens { OpensOnce ⟦<S as Suite>⟧ ⟦<StreamReader<S, R> as Read>⟧ C.gives_passphrase (filename_of self.old) (state_of self.old) (state_of self.new) }
+        ensures opens { OpensOnce ⟦<S as Suite>⟧ ⟦<StreamReader<S, R> as Read>⟧ C.gives_passphrase (filename_of self.old) (state_of self.old)
+            (state_of self.new) }
         ensures first { result ≡ is_encrypted (state_of self.old) }
         ensures name { filename_of self.new ≡ filename_of self.old }
     {
@@ -212,7 +213,8 @@ fn repeated(e: &DecryptError) -> DecryptError
 impl<S: Suite, R: Read + Drop, C: Callbacks> age_format::Identity for Identity<S, R, C> {
     // The file is opened, if nothing was tried yet, and then its identities are asked. Its name stays.
     ghost unwraps = { λ before stanzas answer after. (filename_of after ≡ filename_of before)
-        × Uses ⟦<S as Suite>⟧ ⟦<StreamReader<S, R> as Read>⟧ C.gives_passphrase (filename_of before) C.displays (state_of before) stanzas answer (state_of after) };
+        × Uses ⟦<S as Suite>⟧ ⟦<StreamReader<S, R> as Read>⟧ C.gives_passphrase (filename_of before) C.displays (state_of before) stanzas answer
+        (state_of after) };
 
     /// Answers to one stanza: opens the file if nothing did yet, and asks its identities in the order of the file. The first answer that
     /// isn't `None` decides.

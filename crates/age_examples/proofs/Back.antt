@@ -7,7 +7,7 @@ use Rattle.age.specs.EncryptErrors.{EncryptRefusal}
 use Rattle.age.specs.Encrypting.{Prepared, Prepares}
 use Rattle.age.specs.ErrorVariants.{Device, OutOfMemory, TooLong}
 use Rattle.age.specs.ErrorKindVariants.{Interrupted}
-use Rattle.age.specs.File.{IsFileOf}
+use Rattle.age.specs.File.{IsFileOf, file_text}
 use Rattle.age.specs.FileErrors.{DecryptsUnless, EncryptsUnless, IfIo}
 use Rattle.age.specs.FileErrorVariants as file
 use Rattle.age.specs.Identities.{FirstAnswer, IsFileFor, UnwrapAnswer}
@@ -20,7 +20,7 @@ use Rattle.age.specs.Types.{Error, FileError, StreamWriter}
 use Rattle.age.specs.WholeFiles.{RefusesFile}
 use Rattle.age.specs.Writing.{HandsOn, Narrows, OrMemory, Retried}
 use Rattle.age.specs.WritingLemmas.{retried-plain}
-use Rattle.age.specs.FileLaws.{KeepsApart}
+use Rattle.age.specs.FileLaws.{PreparesApart}
 use Rattle.age_examples.specs.Keys.{AlwaysGiveKeysBack, IsNotWritten, RefusesUnless}
 
 -- a writer that refuses for want of memory alone, as a list does
@@ -55,20 +55,24 @@ module _ {S W : Type 0} (key : List ℕ) (inner : W) (writer : StreamWriter S W)
       unwritten e (subst (λ k. Retried (Refused ForWant) writer k e) (add-zero n) first)
 
 -- A file that was prepared for recipients is one for the identities that always give its file key.
-pub file-for-them : {R I : Type 0} (wraps : R → List ℕ → List ℕ → WrapAnswer → List ℕ → Type 0) (unwraps : I → List StanzaValue → UnwrapAnswer → I → Type 0)
-    (seal_of : Seal) (recipients : List R) (grease : StanzaValue) (identities : List I) → AlwaysGiveKeysBack wraps unwraps recipients grease identities
-    → KeepsApart seal_of → (draws left : List ℕ) (prepared : Prepared) (plain text other : List ℕ) → Prepares wraps recipients (Some grease) draws (Ok prepared) left
-    → IsFileOf seal_of prepared.file_key prepared.stanzas plain text → AreBytes plain → length plain ≤ 2 ^ 60 → text ≡ other
+pub file-for-them : {R I : Type 0} (wraps : R → List ℕ → List ℕ → WrapAnswer → List ℕ → Type 0)
+    (unwraps : I → List StanzaValue → UnwrapAnswer → I → Type 0)
+    (seal_of : Seal) (recipients : List R) (grease : StanzaValue) (identities : List I)
+    (draws left : List ℕ) → AlwaysGiveKeysBack wraps unwraps recipients grease draws left identities
+    → (prepared : Prepared) (plain other : List ℕ) → PreparesApart wraps recipients (Some grease) draws left seal_of plain
+    → Prepares wraps recipients (Some grease) draws (Ok prepared) left
+    → IsFileOf seal_of prepared.file_key prepared.stanzas plain (file_text seal_of prepared.file_key prepared.stanzas prepared.nonce plain)
+    → AreBytes plain → length plain ≤ 2 ^ 60 → file_text seal_of prepared.file_key prepared.stanzas prepared.nonce plain ≡ other
     → IsFileFor seal_of (FirstAnswer unwraps identities) plain other
-file-for-them wraps unwraps seal_of recipients grease identities always keeps draws left prepared plain text other prepares is_file bytes within is =
+file-for-them wraps unwraps seal_of recipients grease identities draws left always prepared plain other apart prepares is_file bytes within is =
     subst (λ (l : List ℕ). IsFileFor seal_of (FirstAnswer unwraps identities) plain l) is (record {
       file_key = prepared.file_key;
       stanzas = prepared.stanzas;
       is_file = is_file;
       bytes = bytes;
       within = within;
-      last = keeps _ _;
-      right = λ answer asked. always draws left prepared answer prepares asked;
+      last = apart prepared prepares is_file;
+      right = λ answer asked. always prepared answer prepares asked;
     })
 
 -- a list isn't given so many bytes, or a writer that it is handed on to isn't
@@ -93,8 +97,10 @@ unencrypted Unprepared Known Why Unwritten (file.Io e) why io then_so = then_so 
 unencrypted Unprepared Known Why Unwritten (file.Decrypt e) why io then_so = absurd why
 
 -- why decrypting a file for the identities is
-pub undecrypted : {T W : Type 0} (Unprepared : EncryptRefusal → Type 0) (refuses : W → ℕ → Error → Type 0) (writer : W) (size : ℕ) (result : Result T FileError)
-    → IfErr result (DecryptsUnless (λ refusal. refusal ≡ decrypt.OutOfMemory)) → IfErr result (IfIo (λ e. (e ≡ OutOfMemory) ⊎ HandsOn refuses writer e))
+pub undecrypted : {T W : Type 0} (Unprepared : EncryptRefusal → Type 0) (refuses : W → ℕ → Error → Type 0) (writer : W) (size : ℕ)
+    (result : Result T FileError)
+    → IfErr result (DecryptsUnless (λ refusal. refusal ≡ decrypt.OutOfMemory))
+    → IfErr result (IfIo (λ e. (e ≡ OutOfMemory) ⊎ HandsOn refuses writer e))
     → IfErr result (RefusesUnless Unprepared (RefusesFile refuses writer size))
 undecrypted Unprepared refuses writer size (Ok x) honest written = tt
 undecrypted Unprepared refuses writer size (Err (file.Encrypt e)) honest written = absurd honest

@@ -13,7 +13,8 @@ use Rattle.age_examples.proofs.Places.{start_is}
 some_same : (a b : ℕ) → Some a ≡ Some b → a ≡ b
 some_same a b is = Prim.cc
 
-in_limit : (within : Bool) (answer : Result ℕ Error) (n : ℕ) → ◌≡◌ {A = Result ℕ Error} (if within then answer else Err TooLong) (Ok n) → answer ≡ Ok n
+in_limit : (within : Bool) (answer : Result ℕ Error) (n : ℕ) → ◌≡◌ {A = Result ℕ Error} (if within then answer else Err TooLong) (Ok n)
+    → answer ≡ Ok n
 in_limit true answer n is = is
 in_limit false answer n is = absurd (Prim.cc)
 

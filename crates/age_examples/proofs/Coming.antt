@@ -11,29 +11,37 @@ use Rattle.age.specs.Several.{BelongsToOne, HoldAnswers, WrapsStrange, grease_be
 use Rattle.age.specs.Stanza.{StanzaValue}
 use Rattle.age_examples.specs.Keys.{AlwaysGiveKeysBack, GiveKeysBack}
 
-decider_is : {I : Type 0} (one : I) (passed : List I) (decider : I) (later : List I) → Path (List I) (one ∷ []) (passed ++ decider ∷ later) → decider ≡ one
+decider_is : {I : Type 0} (one : I) (passed : List I) (decider : I) (later : List I) → Path (List I) (one ∷ []) (passed ++ decider ∷ later)
+    → decider ≡ one
 decider_is one [] decider later is = cc
 decider_is one (p ∷ []) decider later is = absurd (Prim.cc)
 decider_is one (p ∷ q ∷ passed) decider later is = absurd (Prim.cc)
 
 -- of one identity the first that answers is itself
-alone_asked : {I A : Type 0} (asks : I → Option A → I → Type 0) (one : I) (answer : Option A) (after : List I) → FirstThatAnswers asks (one ∷ []) answer after
+alone_asked : {I A : Type 0} (asks : I → Option A → I → Type 0) (one : I) (answer : Option A) (after : List I)
+    → FirstThatAnswers asks (one ∷ []) answer after
     → (then_so : I) × asks one answer then_so
 alone_asked asks one None [] none = absurd none
 alone_asked asks one None (next ∷ rest) none = (next, none.0)
-alone_asked asks one (Some a) after decides =
-    (decides.decider_after, subst (λ i. asks i (Some a) decides.decider_after) (decider_is one decides.passed decides.decider decides.later decides.all_before) decides.answers)
+alone_asked asks one (Some a) after decides = (
+  decides.decider_after,
+  subst (λ i. asks i (Some a) decides.decider_after)
+      (decider_is one decides.passed decides.decider decides.later decides.all_before) decides.answers,
+)
 
-key_is : (key other : List ℕ) → Path UnwrapAnswer (Some (Ok key)) (Some (Ok other)) ⊎ Path UnwrapAnswer (Some (Ok key)) (Some (Err decrypt.OutOfMemory)) → key ≡ other
+key_is : (key other : List ℕ) → Path UnwrapAnswer (Some (Ok key)) (Some (Ok other))
+    ⊎ Path UnwrapAnswer (Some (Ok key)) (Some (Err decrypt.OutOfMemory)) → key ≡ other
 key_is key other (inl is) = cc
 key_is key other (inr is) = absurd (Prim.cc)
 
-module _ {R I : Type 0} (wraps : R → List ℕ → List ℕ → WrapAnswer → List ℕ → Type 0) (unwraps : I → List StanzaValue → UnwrapAnswer → I → Type 0) where
+module _ {R I : Type 0} (wraps : R → List ℕ → List ℕ → WrapAnswer → List ℕ → Type 0)
+    (unwraps : I → List StanzaValue → UnwrapAnswer → I → Type 0) where
   -- who always gives it gives no other
-  pub no_other : (recipients : List R) (grease : StanzaValue) (identities : List I) → AlwaysGiveKeysBack wraps unwraps recipients grease identities
-      → GiveKeysBack wraps unwraps recipients grease identities
-  no_other recipients grease identities always draws left file file_key after prepares first =
-      key_is file_key file.file_key (always draws left file (Some (Ok file_key)) prepares (after, first))
+  pub no_other : (recipients : List R) (grease : StanzaValue) (draws left : List ℕ) (identities : List I)
+      → AlwaysGiveKeysBack wraps unwraps recipients grease draws left identities
+      → GiveKeysBack wraps unwraps recipients grease draws left identities
+  no_other recipients grease draws left identities always file file_key after prepares first =
+      key_is file_key file.file_key (always file (Some (Ok file_key)) prepares (after, first))
 
   module _ (is_strange : StanzaValue → Bool) where
     -- the recipient's stanzas among those of all
@@ -52,13 +60,15 @@ module _ {R I : Type 0} (wraps : R → List ℕ → List ℕ → WrapAnswer → 
           wrapped,
           later,
           wraps_so,
-          All-append (λ s. IsTrue (is_strange s)) a.stanzas before (All-head (WrapsStrange wraps is_strange) r front strange file_key a sixteen each.0) passed,
+          All-append (λ s. IsTrue (is_strange s)) a.stanzas before
+              (All-head (WrapsStrange wraps is_strange) r front strange file_key a sixteen each.0) passed,
           ap (λ l. a.stanzas ++ l) is ∙ sym (append_assoc a.stanzas before (wrapped.stanzas ++ later)),
         )
 
-  pub always_back : HoldAnswers wraps → (recipients : List R) (identity : I) (grease : StanzaValue) → BelongsToOne wraps unwraps recipients identity
-      → AlwaysGiveKeysBack wraps unwraps recipients grease (identity ∷ [])
-  always_back hold recipients identity grease one draws left file answer prepares asked =
+  pub always_back : HoldAnswers wraps → (recipients : List R) (identity : I) (grease : StanzaValue) (draws left : List ℕ)
+      → BelongsToOne wraps unwraps recipients identity
+      → AlwaysGiveKeysBack wraps unwraps recipients grease draws left (identity ∷ [])
+  always_back hold recipients identity grease draws left one file answer prepares asked =
       let holds = hold recipients (Some grease) draws left file prepares in
       let each : AllZip (MayWrap wraps file.file_key) (one.front ++ one.recipient ∷ one.back) holds.answers =
       subst (λ l. AllZip (MayWrap wraps file.file_key) l holds.answers) one.all holds.each in

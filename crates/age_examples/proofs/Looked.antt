@@ -24,7 +24,8 @@ none [] place is = refl
 none (x ∷ xs) zero is = cc
 none (x ∷ xs) (suc n) is = none xs n is
 
-pub looked : (content before after : Stretch) (place count : ℕ) (room : List ℕ) → length room ≡ 1 → count ≤ length room → before ≡ from_place place content →
+pub looked : (content before after : Stretch) (place count : ℕ) (room : List ℕ) → length room ≡ 1 → count ≤ length room
+    → before ≡ from_place place content →
     Delivers (take count room) before after → (count ≡ 0 → 0 < length room → IsCleanEnd before) → IsLook content.bytes place count room
 looked content before after place zero room one within at came end =
     none content.bytes place (sym (ap (λ s. s.bytes) at) ∙ (end refl (omega (arith, one))).bytes)
@@ -34,8 +35,10 @@ looked content before after place (suc zero) (byte ∷ []) one within at came en
 looked content before after place (suc (suc n)) (byte ∷ []) one within at came end = absurd (omega (arith, within))
 looked content before after place (suc n) (byte ∷ other ∷ room) one within at came end = absurd (omega (arith, one))
 
-pub look : {E : Type 0} (content before after : Stretch) (place : ℕ) (room : List ℕ) (result : Result ℕ E) → length room ≡ 1 → before ≡ from_place place content →
-    IfOk result (λ n. n ≤ length room) → IfOk result (λ n. Delivers (take n room) before after) → IfOk result (λ n. n ≡ 0 → 0 < length room → IsCleanEnd before) →
+pub look : {E : Type 0} (content before after : Stretch) (place : ℕ) (room : List ℕ) (result : Result ℕ E) → length room ≡ 1
+    → before ≡ from_place place content →
+    IfOk result (λ n. n ≤ length room) → IfOk result (λ n. Delivers (take n room) before after)
+    → IfOk result (λ n. n ≡ 0 → 0 < length room → IsCleanEnd before) →
     IfOk result (λ n. IsLook content.bytes place n room)
 look content before after place room (Ok n) one at within came end = looked content before after place n room one within at came end
 look content before after place room (Err e) one at within came end = tt
@@ -52,7 +55,8 @@ grown bytes places rest tail place (suc n) before room look some front all =
     ∙ ap (λ xs. xs ++ map (slice_get bytes) tail) (sym (map-append Some before room))
 
 -- nothing came
-pub behind : (bytes rest tail : List ℕ) (place n : ℕ) (room : List ℕ) → IsLook bytes place n room → n ≡ 0 → rest ≡ place ∷ tail → IsOneOutside bytes rest
+pub behind : (bytes rest tail : List ℕ) (place n : ℕ) (room : List ℕ) → IsLook bytes place n room → n ≡ 0 → rest ≡ place ∷ tail
+    → IsOneOutside bytes rest
 behind bytes rest tail place zero room look none front = subst (IsOneOutside bytes) (sym front) (inl look)
 behind bytes rest tail place (suc n) room look none front = absurd (omega (arith, none))
 
@@ -63,7 +67,8 @@ ended bytes places [] before none all = all ∙ append-nil (map Some before)
 ended bytes places (place ∷ rest) before none all = absurd (omega (arith, none))
 
 -- the byte that a look found
-pub found : (bytes : List ℕ) (place n : ℕ) (room : List ℕ) → IsLook bytes place n room → (n ≡ 0 → ⊥) → length room ≡ 1 → slice_get bytes place ≡ Some (slice_index_or room 0 0)
+pub found : (bytes : List ℕ) (place n : ℕ) (room : List ℕ) → IsLook bytes place n room → (n ≡ 0 → ⊥) → length room ≡ 1
+    → slice_get bytes place ≡ Some (slice_index_or room 0 0)
 found bytes place zero room look some one = absurd (some refl)
 found bytes place (suc n) [] look some one = absurd (omega (arith, one))
 found bytes place (suc n) (byte ∷ []) look some one = same (slice_get bytes place) (Some byte) (sym look)

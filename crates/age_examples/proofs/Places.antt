@@ -43,7 +43,8 @@ part_is target n count stood start content plain size first is leads =
     same_part n count start target content plain size
     (start_is target (length plain) start (from_front (Start target) stood content plain (Ok start) first is leads)) is
 
-want_or_past : (e : Error) (place len : ℕ) → (e ≢ OutOfMemory → sought (Start place) 0 len ≡ Err e) → (e ≡ OutOfMemory) ⊎ ((e ≡ PastEnd) × (len < place))
+want_or_past : (e : Error) (place len : ℕ) → (e ≢ OutOfMemory → sought (Start place) 0 len ≡ Err e)
+    → (e ≡ OutOfMemory) ⊎ ((e ≡ PastEnd) × (len < place))
 want_or_past OutOfMemory place len refused = inl refl
 want_or_past _ place len refused = inr (refused_is place len _ (refused (λ same. Prim.cc)))
 

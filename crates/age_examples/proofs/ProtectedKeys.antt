@@ -25,13 +25,15 @@ module _ {S R C : Type 0} (suite : SuiteMembers S) (read : ReadMembers R) (strea
   no_recipients refusal asked recipients (inr (text, is)) = subst (λ r. IfErr r (λ _. ⊥)) is tt
 
   module _ (d : Decryptor S R) (front : OpensFront read input (Ok d)) where
-    of_opened : (outcome : Result (List Entry) DecryptRefusal) (asked : C) → Opens suite stream_read gives None (file_of d callbacks 18 None) outcome asked
+    of_opened : (outcome : Result (List Entry) DecryptRefusal) (asked : C)
+        → Opens suite stream_read gives None (file_of d callbacks 18 None) outcome asked
         → (recipients : List (List ℕ)) → GivesRecipients {R = R} (λ secret. suite.public_of secret) (state_after outcome asked) (Ok recipients)
         → AreOfProtected suite stream_read gives (read.rest input) callbacks recipients
     of_opened (Err refusal) asked opens recipients given = absurd (no_recipients refusal asked recipients given)
     of_opened (Ok entries) asked opens recipients (native, those) =
         let both : IsTrue (read.tells d.input && read.steady d.input) = rw (front.keeps.tells, front.keeps.steady, told, steady) refl in
-        let (passphrase, given, file) = holds None (file_of d callbacks 18 None) entries asked opens both (read.rest input) (read.place input) (front.front told) in
+        let (passphrase, given, file) = holds None (file_of d callbacks 18 None) entries asked opens both (read.rest input) (read.place input)
+        (front.front told) in
         record {
           passphrase = passphrase;
           after = asked;
@@ -48,7 +50,8 @@ module _ {S R C : Type 0} (suite : SuiteMembers S) (read : ReadMembers R) (strea
         → (recipients : List (List ℕ)) → GivesRecipients (λ secret. suite.public_of secret) after (Ok recipients)
         → AreOfProtected suite stream_read gives (read.rest input) callbacks recipients
     of_state name named before was after opened recipients given =
-        let (outcome, asked, opens, is) = subst (λ s. OpensOnce suite stream_read gives None s after) was (subst (λ n. OpensOnce suite stream_read gives n before after) named opened) in
+        let (outcome, asked, opens, is) = subst (λ s. OpensOnce suite stream_read gives None s after) was
+        (subst (λ n. OpensOnce suite stream_read gives n before after) named opened) in
         of_opened outcome asked opens recipients (subst (λ s. GivesRecipients (λ secret. suite.public_of secret) s (Ok recipients)) is given)
 
   -- however the front was read
@@ -72,7 +75,8 @@ no_front {R = R} read input e Made same never (Err other) front is =
 no_front read input e Made same never (Ok d) front is = absurd (never d is)
 
 -- the file of a decryptor that was made isn't one of a passphrase
-pub no_passphrase : {S R : Type 0} (read : ReadMembers R) (input : R) (Made : Result (Decryptor S R) DecryptError → Type 0) → ((e : DecryptError) → Made (Err e) → ⊥)
+pub no_passphrase : {S R : Type 0} (read : ReadMembers R) (input : R) (Made : Result (Decryptor S R) DecryptError → Type 0)
+    → ((e : DecryptError) → Made (Err e) → ⊥)
     → ((d : Decryptor S R) → Made (Ok d) → IsScrypt (header_of d).stanzas → ⊥) → (made : Result (Decryptor S R) DecryptError)
     → OpensFront read input made → Made made → IsTrue (read.tells input) → HasNoPassphrase (read.rest input) (read.place input)
 no_passphrase read input Made none some (Err e) front is told = absurd (none e is)
@@ -88,10 +92,12 @@ no_passphrase read input Made none some (Ok d) front is told = record {
 module _ {S R C : Type 0} (suite : SuiteMembers S) (read : ReadMembers R) (stream_read : ReadMembers (StreamReader S R suite read))
     (gives : C → List ℕ → Option (List ℕ) → C → Type 0) (input : R) (callbacks : C) (refusal : EncryptRefusal) where
   refused_state : (d : Decryptor S R) → OpensFront read input (Ok d) → IsScrypt (header_of d).stanzas → (name : Option (List ℕ)) → name ≡ None
-      → (before : State R C) → before ≡ Encrypted (file_of d callbacks 18 None) → (after : State R C) → OpensOnce suite stream_read gives name before after
+      → (before : State R C) → before ≡ Encrypted (file_of d callbacks 18 None) → (after : State R C)
+      → OpensOnce suite stream_read gives name before after
       → GivesRecipients (λ secret. suite.public_of secret) after (Err refusal) → OpensToNone suite stream_read gives input callbacks refusal
   refused_state d front scrypt name named before was after opened told =
-      let (outcome, asked, opens, is) = subst (λ s. OpensOnce suite stream_read gives None s after) was (subst (λ n. OpensOnce suite stream_read gives n before after) named opened) in
+      let (outcome, asked, opens, is) = subst (λ s. OpensOnce suite stream_read gives None s after) was
+      (subst (λ n. OpensOnce suite stream_read gives n before after) named opened) in
       record {
         decryptor = d;
         front = front;

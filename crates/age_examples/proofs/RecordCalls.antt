@@ -16,7 +16,8 @@ use Rattle.age_examples.specs.RecordAnswers.{Answered, record_seen}
 pub quiet-before : {a b c : ℕ} → a ≤ b → b ≤ c → IsQuiet a c → IsQuiet a b
 quiet-before first second quiet = record { same = omega (arith, first, second, quiet.same); below = omega (arith, second, quiet.below) }
 
-pub same-later : {S R : Type 0} {suite : SuiteMembers S} {read : ReadMembers R} (a b c : Records S R suite read) → SameRecords a b → SameRecords b c → SameRecords a c
+pub same-later : {S R : Type 0} {suite : SuiteMembers S} {read : ReadMembers R} (a b c : Records S R suite read) → SameRecords a b
+    → SameRecords b c → SameRecords a c
 same-later a b c first second =
     let one = first.reader in
     let two = second.reader in
@@ -33,7 +34,8 @@ same-later a b c first second =
       };
     }
 
-pub answered-more : {Z : Type 0} (written : List (List ℕ)) (calls : List ℕ) (answers : List (Result (Vec ℕ Z) RecordError)) (index : ℕ) (answer : Result (Vec ℕ Z) RecordError) →
+pub answered-more : {Z : Type 0} (written : List (List ℕ)) (calls : List ℕ) (answers : List (Result (Vec ℕ Z) RecordError)) (index : ℕ)
+    (answer : Result (Vec ℕ Z) RecordError) →
     Answered written calls answers → (record_seen answer ≡ Err (Io OutOfMemory)) ⊎ (record_seen answer ≡ found (slice_get written index)) →
     Answered written (calls ++ index ∷ []) (answers ++ answer ∷ [])
 answered-more written [] [] index answer before one = (one, tt)

@@ -7,7 +7,9 @@ use Rattle.age.specs.Encrypting.{Prepared, Prepares}
 use Rattle.age.specs.ErrorVariants.{OutOfMemory}
 use Rattle.age.specs.FileErrorVariants as file
 use Rattle.age.specs.Identities.{FirstAnswer, IsFileFor, UnwrapAnswer}
-use Rattle.age.specs.Payload.{LastIsNoMiddle, Seal}
+use Rattle.age.specs.File.{file_text}
+use Rattle.age.specs.FileLaws.{PreparesApart}
+use Rattle.age.specs.Payload.{Seal}
 use Rattle.age.specs.Several.{AnyDecrypts, BelongsToOne}
 use Rattle.age.specs.Stanza.{StanzaValue}
 use Rattle.age.specs.StreamWriting.{Refused, WasMade, taken_len}
@@ -19,7 +21,7 @@ use Rattle.age_examples.specs.Keys.{IsWhole}
 use Rattle.age_records.specs.declared.error.RecordError.{RecordError}
 use Rattle.age_records.specs.declared.error.RecordError.TheVariants.{Io, NoSuchRecord}
 use Rattle.age_examples.specs.RecordFiles.{IsOpenWant}
-use Rattle.age_examples.specs.RecordsBack.{RefusesBack, RefusesThrough}
+use Rattle.age_examples.specs.RecordsBack.{RefusesRecordBack, RefusesThrough}
 use Rattle.age_examples.specs.declared.record_files.RecordFileError.{RecordFileError}
 use Rattle.age_examples.specs.declared.record_files.RecordFileError.TheVariants.{File, Record}
 
@@ -39,30 +41,35 @@ module _ {S W : Type 0} (writer : StreamWriter S W) (n : ℕ) (key : List ℕ) (
   memory-alone e (inl (_, why)) = once e why
   memory-alone e (inr (_, why)) = let never = once _ why in absurd (cc)
 
-pub want-back : (records : List (List ℕ)) (i : ℕ) (e : RecordError) → e ≡ Io OutOfMemory → RefusesBack records i e
-want-back records i e memory = subst (λ e. RefusesBack records i e) (sym memory) (inl refl)
+pub want-back : (records : List (List ℕ)) (i : ℕ) (e : RecordError) → e ≡ Io OutOfMemory → RefusesRecordBack records i e
+want-back records i e memory = subst (λ e. RefusesRecordBack records i e) (sym memory) (inl refl)
 
 pub refused-back : (records : List (List ℕ)) (i : ℕ) (e : RecordError) →
-    (e ≡ Io OutOfMemory) ⊎ ((e ≡ NoSuchRecord) × (slice_get records i ≡ None)) → RefusesBack records i e
+    (e ≡ Io OutOfMemory) ⊎ ((e ≡ NoSuchRecord) × (slice_get records i ≡ None)) → RefusesRecordBack records i e
 refused-back records i e (inl memory) = want-back records i e memory
-refused-back records i e (inr (none, missing)) = subst (λ e. RefusesBack records i e) (sym none) missing
+refused-back records i e (inr (none, missing)) = subst (λ e. RefusesRecordBack records i e) (sym none) missing
 
-pub want-through : (Unprepared : EncryptRefusal → Type 0) (records : List (List ℕ)) (i : ℕ) (e : RecordFileError) → IsOpenWant e → RefusesThrough Unprepared records i e
+pub want-through : (Unprepared : EncryptRefusal → Type 0) (records : List (List ℕ)) (i : ℕ) (e : RecordFileError) → IsOpenWant e
+    → RefusesThrough Unprepared records i e
 want-through Unprepared records i (File (file.Io e)) want = inl want
 want-through Unprepared records i (File (file.Encrypt e)) want = absurd want
 want-through Unprepared records i (File (file.Decrypt e)) want = want
 want-through Unprepared records i (Record e) want = want-back records i e want
 
 -- What was read of a file that was written whole is one for an identity that belongs to one of its recipients.
-pub read-for : {R I : Type 0} (seal_of : Seal) (wraps : R → List ℕ → List ℕ → WrapAnswer → List ℕ → Type 0) (unwraps : I → List StanzaValue → UnwrapAnswer → I → Type 0) →
+pub read-for : {R I : Type 0} (seal_of : Seal) (wraps : R → List ℕ → List ℕ → WrapAnswer → List ℕ → Type 0)
+    (unwraps : I → List StanzaValue → UnwrapAnswer → I → Type 0) →
     AnyDecrypts wraps unwraps seal_of → (recipients : List R) (grease : Option StanzaValue) (draws left plain file : List ℕ) →
     ((prepared : Prepared) × Prepares wraps recipients grease draws (Ok prepared) left × IsWhole seal_of prepared plain file) →
     (identities : List I) (identity : I) → identities ≡ identity ∷ [] → BelongsToOne wraps unwraps recipients identity →
-    ((key text : List ℕ) → LastIsNoMiddle seal_of key text) → (read : Stretch) → read ≡ whole file →
-    IsTrue read.ends_well × Carries read.bytes file × IsFileFor seal_of (FirstAnswer unwraps identities) plain file
-read-for seal_of wraps unwraps any recipients grease draws left plain file (prepared, prepares, made) identities identity alone one keeps read is = (
+    PreparesApart wraps recipients grease draws left seal_of plain → (read : Stretch) → read ≡ whole file →
+    (text : List ℕ) × IsTrue read.ends_well × Carries read.bytes text × IsFileFor seal_of (FirstAnswer unwraps identities) plain text
+read-for seal_of wraps unwraps any recipients grease draws left plain file (prepared, prepares, made) identities identity alone one apart read is = (
+  file_text seal_of prepared.file_key prepared.stanzas prepared.nonce plain,
   subst (λ (s : Stretch). IsTrue s.ends_well) (sym is) refl,
-  subst (λ (s : Stretch). Carries s.bytes file) (sym is) made.carries,
-  subst (λ those. IsFileFor seal_of (FirstAnswer unwraps those) plain file) (sym alone)
-      (any recipients identity grease draws left prepared plain file one prepares made.is_file made.bytes made.within (keeps _ _)),
+  subst (λ (s : Stretch). Carries s.bytes (file_text seal_of prepared.file_key prepared.stanzas prepared.nonce plain)) (sym is) made.carries,
+  subst (λ those. IsFileFor seal_of (FirstAnswer unwraps those) plain (file_text seal_of prepared.file_key prepared.stanzas prepared.nonce plain))
+      (sym alone)
+      (any recipients identity grease draws left prepared plain _ one prepares made.is_file made.bytes made.within
+      (apart prepared prepares made.is_file)),
 )

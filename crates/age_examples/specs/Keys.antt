@@ -7,7 +7,7 @@ use Rattle.age.specs.EncryptErrors.{EncryptRefusal, encrypt_refusal}
 use Rattle.age.specs.ErrorVariants.{OutOfMemory, TooLong}
 use Rattle.age.specs.FileErrorVariants as file
 use Rattle.age.specs.Payload.{Seal}
-use Rattle.age.specs.File.{IsFileOf}
+use Rattle.age.specs.File.{IsFileOf, file_text}
 use Rattle.age.specs.Stanza.{StanzaValue}
 use Rattle.age.specs.Recipients.{WrapAnswer}
 use Rattle.age.specs.Identities.{FirstAnswer, UnwrapAnswer, Unwraps, FirstThatAnswers}
@@ -15,20 +15,20 @@ use Rattle.age.specs.Encrypting.{Prepared, Prepares}
 use Rattle.age.specs.Types.{Error, FileError}
 use Rattle.age.specs.WholeFiles.{RefusesFile}
 
--- To the stanzas that the recipients answer, whatever is drawn, the identities give no other file key than the one that was wrapped.
+-- To the stanzas that the recipients answer with these random bytes, the identities give no other file key than the one that was wrapped.
 abbrev pub GiveKeysBack : {R I : Type 0} → (R → List ℕ → List ℕ → WrapAnswer → List ℕ → Type 0)
-    → (I → List StanzaValue → UnwrapAnswer → I → Type 0) → List R → StanzaValue → List I → Type 0
-GiveKeysBack {R} {I} wraps unwraps recipients grease identities =
-    (draws left : List ℕ) (file : Prepared) (file_key : List ℕ) (after : List I)
+    → (I → List StanzaValue → UnwrapAnswer → I → Type 0) → List R → StanzaValue → (draws left : List ℕ) → List I → Type 0
+GiveKeysBack {R} {I} wraps unwraps recipients grease draws left identities =
+    (file : Prepared) (file_key : List ℕ) (after : List I)
     → Prepares wraps recipients (Some grease) draws (Ok file) left
     → FirstThatAnswers (λ identity answer next. Unwraps unwraps identity file.stanzas answer next) identities (Some (Ok file_key)) after
     → file_key ≡ file.file_key
 
--- To these stanzas they always give that file key, unless memory is refused.
+-- To these stanzas they give that file key, unless memory is refused.
 abbrev pub AlwaysGiveKeysBack : {R I : Type 0} → (R → List ℕ → List ℕ → WrapAnswer → List ℕ → Type 0)
-    → (I → List StanzaValue → UnwrapAnswer → I → Type 0) → List R → StanzaValue → List I → Type 0
-AlwaysGiveKeysBack {R} {I} wraps unwraps recipients grease identities =
-    (draws left : List ℕ) (file : Prepared) (answer : UnwrapAnswer)
+    → (I → List StanzaValue → UnwrapAnswer → I → Type 0) → List R → StanzaValue → (draws left : List ℕ) → List I → Type 0
+AlwaysGiveKeysBack {R} {I} wraps unwraps recipients grease draws left identities =
+    (file : Prepared) (answer : UnwrapAnswer)
     → Prepares wraps recipients (Some grease) draws (Ok file) left → FirstAnswer unwraps identities file.stanzas answer
     → (answer ≡ Some (Ok file.file_key)) ⊎ (answer ≡ Some (Err decrypt.OutOfMemory))
 
@@ -42,7 +42,8 @@ RefusesUnless Unprepared Unwritten (file.Encrypt e) = Unprepared (encrypt_refusa
 RefusesUnless Unprepared Unwritten (file.Io e) = Unwritten e
 RefusesUnless Unprepared Unwritten (file.Decrypt e) = decrypt.decrypt_refusal e ≡ decrypt.OutOfMemory
 
-module _ {R : Type 0} (wraps : R → List ℕ → List ℕ → WrapAnswer → List ℕ → Type 0) (recipients : List R) (grease : StanzaValue) (draws left : List ℕ) where
+module _ {R : Type 0} (wraps : R → List ℕ → List ℕ → WrapAnswer → List ℕ → Type 0) (recipients : List R) (grease : StanzaValue)
+    (draws left : List ℕ) where
   -- Preparing for these recipients with these random bytes, of which those are left, ended with this refusal.
   abbrev pub Unprepared : EncryptRefusal → Type 0
   Unprepared e = Prepares wraps recipients (Some grease) draws (Err e) left
@@ -59,5 +60,6 @@ module _ {R : Type 0} (wraps : R → List ℕ → List ℕ → WrapAnswer → Li
 pub record IsWhole (seal_of : Seal) (prepared : Prepared) (plain file : List ℕ) : Type 0 where
   pub bytes : AreBytes plain
   pub within : length plain ≤ 2 ^ 60
-  pub is_file : IsFileOf seal_of prepared.file_key prepared.stanzas plain file
-  pub carries : Carries file file
+  pub text : file ≡ file_text seal_of prepared.file_key prepared.stanzas prepared.nonce plain
+  pub is_file : IsFileOf seal_of prepared.file_key prepared.stanzas plain (file_text seal_of prepared.file_key prepared.stanzas prepared.nonce plain)
+  pub carries : Carries file (file_text seal_of prepared.file_key prepared.stanzas prepared.nonce plain)

@@ -29,7 +29,8 @@ pub record HasNoPassphrase (start : Stretch) (place : ℕ) : Type 0 where
 module _ {S R : Type 0} (suite : SuiteMembers S) {read : ReadMembers R} (stream_read : ReadMembers (StreamReader S R suite read)) where
   -- A passphrase was given for a file without a name, under which the bytes were the file of an identity file's text, whose work factor was
   -- at most 22, and these are the public values of the identities in its lines.
-  pub record AreOfProtected {C : Type 0} (gives : C → List ℕ → Option (List ℕ) → C → Type 0) (start : Stretch) (callbacks : C) (recipients : List (List ℕ)) : Type 0 where
+  pub record AreOfProtected {C : Type 0} (gives : C → List ℕ → Option (List ℕ) → C → Type 0) (start : Stretch) (callbacks : C)
+      (recipients : List (List ℕ)) : Type 0 where
     pub passphrase : List ℕ
     pub after : C
     pub given : gives callbacks (description None) (Some passphrase) after
@@ -40,7 +41,8 @@ module _ {S R : Type 0} (suite : SuiteMembers S) {read : ReadMembers R} (stream_
     pub those : recipients ≡ map (λ secret. suite.public_of secret) (native_secrets entries)
 
   -- The file is one of a passphrase, whoever was asked for that was asked once, and what opening it came to gives this refusal.
-  pub record OpensToNone {C : Type 0} (gives : C → List ℕ → Option (List ℕ) → C → Type 0) (input : R) (callbacks : C) (refusal : EncryptRefusal) : Type 0 where
+  pub record OpensToNone {C : Type 0} (gives : C → List ℕ → Option (List ℕ) → C → Type 0) (input : R) (callbacks : C)
+      (refusal : EncryptRefusal) : Type 0 where
     pub decryptor : Decryptor S R
     pub front : OpensFront read input (Ok decryptor)
     pub scrypt : IsScrypt (header_of decryptor).stanzas
@@ -50,7 +52,7 @@ module _ {S R : Type 0} (suite : SuiteMembers S) {read : ReadMembers R} (stream_
     pub told : GivesRecipients {R = R} (λ secret. suite.public_of secret) (state_after outcome asked) (Err refusal)
 
   -- why no recipients are given: no header and nonce were read, and nobody was asked, or what opening the file came to
-  abbrev pub RefusesRecipients : {C : Type 0} → (C → List ℕ → Option (List ℕ) → C → Type 0) → R → C → FileError → Type 0
-  RefusesRecipients gives input callbacks (file.Decrypt e) = (last : R) × RefusesFront canonical read input last (decrypt_refusal e)
-  RefusesRecipients gives input callbacks (file.Encrypt e) = OpensToNone gives input callbacks (encrypt_refusal e)
-  RefusesRecipients gives input callbacks (file.Io e) = ⊥
+  abbrev pub GivesNoRecipients : {C : Type 0} → (C → List ℕ → Option (List ℕ) → C → Type 0) → R → C → FileError → Type 0
+  GivesNoRecipients gives input callbacks (file.Decrypt e) = (last : R) × RefusesFront canonical read input last (decrypt_refusal e)
+  GivesNoRecipients gives input callbacks (file.Encrypt e) = OpensToNone gives input callbacks (encrypt_refusal e)
+  GivesNoRecipients gives input callbacks (file.Io e) = ⊥

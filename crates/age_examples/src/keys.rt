@@ -1,6 +1,6 @@
 //! Files to one's own X25519 key.
-ghost use Rattle.std.specs.Prelude.{◌≡◌, [], ◌∷◌, IfOk, IfErr};
-ghost use Rattle.age.specs.FileLaws.{KeepsApart};
+ghost use Rattle.std.specs.Prelude.{◌≡◌, [], ◌∷◌, IfOk, IfErr, Some};
+ghost use Rattle.age.specs.FileLaws.{PreparesApart};
 ghost use Rattle.age_examples.specs.Keys.{RefusesFor};
 
 use crate::several::opened_by_one;
@@ -15,7 +15,7 @@ use std::alloc::Global;
 
 /// Encrypts a plaintext to the recipient of an identity, in this form, and decrypts the file with that identity: the plaintext.
 ///
-/// Over a suite that keeps a full last chunk apart from one in the middle a success is the plaintext, and it refuses as
+/// Where a full last chunk of the file doesn't open as one in the middle too, a success is the plaintext, and it refuses as
 /// `Encryptor::with_recipients` does, with `TooLong` for a plaintext past 2^60 bytes, or for want of memory, and for nothing else.
 pub fn kept_for_oneself<S: Suite>(
     alloc: Global,
@@ -25,10 +25,14 @@ pub fn kept_for_oneself<S: Suite>(
     format: Format,
     plain: &[u8],
 ) -> Result<Vec<u8>, FileError>
-    ensures plaintext { KeepsApart S.seal_of → IfOk result (λ given. given.items ≡ plain.now) }
-    ensures refused { KeepsApart S.seal_of →
+    ensures plaintext { PreparesApart ⟦<Recipient<S> as age::Recipient>⟧.wraps (S.public_of identity.old ∷ [])
+        (Some grease) draw.old draw.new S.seal_of plain.now →
+        IfOk result (λ given. given.items ≡ plain.now) }
+    ensures refused { PreparesApart ⟦<Recipient<S> as age::Recipient>⟧.wraps (S.public_of identity.old ∷ [])
+        (Some grease) draw.old draw.new S.seal_of plain.now →
         IfErr result (RefusesFor ⟦<Recipient<S> as age::Recipient>⟧.wraps (S.public_of identity.old ∷ []) grease draw.old draw.new plain.now) }
 {
+    // A fact for the proof alone.
     x25519_pair::<S>(identity);
     let recipients = [identity.to_public()];
     opened_by_one::<S, Recipient<S>, Identity<S>>(

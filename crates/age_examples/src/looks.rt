@@ -1,5 +1,5 @@
 //! Looks at places of an armored text that was read before.
-ghost use Rattle.std.specs.Prelude.{◌≡◌, ◌≢◌, ◌+◌, ◌*◌, ◌≤◌, ◌⊎◌, ℕ, IsTrue, length, map, Some, slice_get, None, IfOk, IfErr, OnOk};
+ghost use Rattle.std.specs.Prelude.{◌≡◌, ◌≢◌, ◌+◌, ◌*◌, ◌≤◌, ◌⊎◌, IsTrue, length, map, Some, slice_get, None, IfOk, IfErr, OnOk};
 ghost use Rattle.age.specs.ArmorMarks.{LearnsMore};
 ghost use Rattle.age.specs.ArmorSeeking.{OrAstray};
 ghost use Rattle.age.specs.ArmorReader.{inner_of, armored_content, lines_of, furthest_of, notes_all, marks_of};
@@ -29,7 +29,8 @@ fn look<R: BufRead + Seek>(
         IfOk result (λ n. IsLook (armored_content reader.old).bytes place n byte.new) }
     ensures why { IfErr result (λ e. IsSeekRefusal (OrAstray R.Seek.seek_refuses) e ⊎ ⟦<ArmoredReader<R> as Read>⟧.refuses reader.old e) }
     ensures narrows { OnOk result (AddsNoReason ⟦<ArmoredReader<R> as Read>⟧.refuses reader.old reader.new) }
-    ensures cause { IsTrue (R.Read.tells (inner_of reader.old)) → IsTrue (R.Read.steady (inner_of reader.old)) → IsTrue (armored_content reader.old).ends_well →
+    ensures cause { IsTrue (R.Read.tells (inner_of reader.old)) → IsTrue (R.Read.steady (inner_of reader.old))
+        → IsTrue (armored_content reader.old).ends_well →
         IfErr result (λ e. e ≢ OutOfMemory → IsQuiet (R.Read.faults (inner_of reader.old)) (R.Read.faults (inner_of reader.new)) →
         slice_get (armored_content reader.old).bytes place ≡ None) }
 {
@@ -52,11 +53,14 @@ pub fn bytes_at<R: BufRead + Seek>(
 ) -> Result<Vec<u8>, Error>
     ensures bytes { IsTrue (R.Read.tells (inner_of reader.old)) → IsTrue (R.Read.steady (inner_of reader.old)) →
         IfOk result (λ bytes. map (slice_get (armored_content reader.old).bytes) places.now ≡ map Some bytes.items) }
-    ensures why { IfErr result (λ e. (e ≡ OutOfMemory) ⊎ IsSeekRefusal (OrAstray R.Seek.seek_refuses) e ⊎ ⟦<ArmoredReader<R> as Read>⟧.refuses reader.old e ⊎ ((e ≡ UnexpectedEof)
-        × (IsTrue (R.Read.tells (inner_of reader.old)) → IsTrue (R.Read.steady (inner_of reader.old)) → IsOneOutside (armored_content reader.old).bytes places.now))) }
+    ensures why { IfErr result (λ e. (e ≡ OutOfMemory) ⊎ IsSeekRefusal (OrAstray R.Seek.seek_refuses) e
+        ⊎ ⟦<ArmoredReader<R> as Read>⟧.refuses reader.old e ⊎ ((e ≡ UnexpectedEof)
+        × (IsTrue (R.Read.tells (inner_of reader.old)) → IsTrue (R.Read.steady (inner_of reader.old))
+        → IsOneOutside (armored_content reader.old).bytes places.now))) }
     ensures lines { IsTrue (R.Read.tells (inner_of reader.old)) → IsTrue (R.Read.steady (inner_of reader.old)) → IsTrue (notes_all reader.new) →
         AreWithin (furthest_of reader.old) places.now → OnOk result (lines_of reader.new ≤ lines_of reader.old + 1025 * length places.now) }
-    ensures cause { IsTrue (R.Read.tells (inner_of reader.old)) → IsTrue (R.Read.steady (inner_of reader.old)) → IsTrue (armored_content reader.old).ends_well →
+    ensures cause { IsTrue (R.Read.tells (inner_of reader.old)) → IsTrue (R.Read.steady (inner_of reader.old))
+        → IsTrue (armored_content reader.old).ends_well →
         IfErr result (λ e. e ≢ OutOfMemory → IsQuiet (R.Read.faults (inner_of reader.old)) (R.Read.faults (inner_of reader.new)) →
         IsOneOutside (armored_content reader.old).bytes places.now) }
 {

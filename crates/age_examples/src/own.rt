@@ -1,5 +1,5 @@
 //! A recipient and an identity of one's own. They hide nothing: the file key stands in the header as it is.
-ghost use Rattle.std.specs.Prelude.{◌≡◌, Ok};
+ghost use Rattle.std.specs.Prelude.{Ok};
 ghost use Rattle.std.specs.Result.{result_map_both};
 ghost use Rattle.age.specs.EncryptErrors.{encrypt_refusal};
 ghost use Rattle.age.specs.Identities.{FirstOf, Steady};

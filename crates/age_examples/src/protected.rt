@@ -1,6 +1,6 @@
 //! Keys that a passphrase protects.
 ghost use Rattle.std.specs.Prelude.{◌≡◌, IfErr, IfOk, IfSome, IsTrue, None};
-ghost use Rattle.age_examples.specs.ProtectedKeys.{AreOfProtected, HasNoPassphrase, RefusesRecipients};
+ghost use Rattle.age_examples.specs.ProtectedKeys.{AreOfProtected, HasNoPassphrase, GivesNoRecipients};
 
 use age::Callbacks;
 use age::encrypted::Identity;
@@ -26,7 +26,7 @@ pub fn recipients_of<S: Suite, R: Read + Drop, C: Callbacks>(
     ensures recipients { IsTrue (R.tells input) → IsTrue (R.steady input) → IfOk result (λ made. IfSome made (λ recipients.
         AreOfProtected ⟦<S as Suite>⟧ ⟦<StreamReader<S, R> as Read>⟧ C.gives_passphrase (R.rest input) callbacks recipients.items)) }
     ensures none { IsTrue (R.tells input) → IfOk result (λ made. made ≡ None → HasNoPassphrase (R.rest input) (R.place input)) }
-    ensures refused { IfErr result (RefusesRecipients ⟦<S as Suite>⟧ ⟦<StreamReader<S, R> as Read>⟧ C.gives_passphrase input callbacks) }
+    ensures refused { IfErr result (GivesNoRecipients ⟦<S as Suite>⟧ ⟦<StreamReader<S, R> as Read>⟧ C.gives_passphrase input callbacks) }
 {
     // For the proof alone.
     opened_files::<S, R, C>();

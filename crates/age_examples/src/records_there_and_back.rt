@@ -1,11 +1,12 @@
 //! Records written as a payload, or as a file, and one of them read back.
-ghost use Rattle.std.specs.Prelude.{◌≡◌, ℕ, List, ◌∷◌, [], map, vec_items, slice_get, Some, Ok, Err, IfOk, IfErr, MatchResult};
+ghost use Rattle.std.specs.Prelude.{◌≡◌, ◌∷◌, [], map, vec_items, slice_get, Some, Ok, Err, IfOk, IfErr, MatchResult};
 ghost use Rattle.age.specs.Encrypting.{Prepared, Prepares};
+ghost use Rattle.age.specs.FileLaws.{PreparesApart};
 ghost use Rattle.age.specs.Payload.{LastIsNoMiddle};
 ghost use Rattle.age.specs.Several.{BelongsToOne};
 ghost use Rattle.age_records.specs.Text.{records_text};
 ghost use Rattle.age_examples.specs.Keys.{IsWhole};
-ghost use Rattle.age_examples.specs.RecordsBack.{IsPayloadOf, RefusesBack, RefusesRecordFile, RefusesThrough, RefusesWriting};
+ghost use Rattle.age_examples.specs.RecordsBack.{IsPayloadOf, RefusesRecordBack, RefusesRecordFile, RefusesThrough, RefusesRecordsText};
 
 use crate::record_files::{RecordFileError, records_of};
 use age::draw::Draw;
@@ -30,7 +31,7 @@ pub fn payload_of_records<S: Suite>(
     records: &[Vec<u8>],
 ) -> Result<Vec<u8>, Error>
     ensures made { IfOk result (λ sealed. IsPayloadOf S.seal_of key (map vec_items records.now) sealed.items) }
-    ensures refused { IfErr result (RefusesWriting (map vec_items records.now)) }
+    ensures refused { IfErr result (RefusesRecordsText (map vec_items records.now)) }
 {
     let mut payload = match StreamWriter::<S, Vec<u8>>::with_payload_key(
         alloc,
@@ -49,7 +50,7 @@ pub fn payload_of_records<S: Suite>(
 
 /// One of these records, once they were written as a payload and that was opened.
 ///
-/// Over a suite that keeps a full last chunk apart from one in the middle a success is the record, and it is `NoSuchRecord` where
+/// Where a full last chunk of the payload doesn't open as one in the middle too, a success is the record, and it is `NoSuchRecord` where
 /// there are no more than `index` of them, `Io(TooLong)` where their text has more than 2^60 bytes, and else refused for want of
 /// memory alone.
 pub fn record_through_payload<S: Suite>(
@@ -59,10 +60,11 @@ pub fn record_through_payload<S: Suite>(
     index: u64,
 ) -> Result<Vec<u8>, RecordError>
     ensures { LastIsNoMiddle S.seal_of key (records_text (map vec_items records.now)) → MatchResult result
-        (λ bytes. slice_get (map vec_items records.now) index ≡ Some bytes.items) (RefusesBack (map vec_items records.now) index) }
+        (λ bytes. slice_get (map vec_items records.now) index ≡ Some bytes.items) (RefusesRecordBack (map vec_items records.now) index) }
 {
     // Facts for the proof alone.
     delivery_laws::<S>();
+    // For the proof alone: these are bytes, each below 256.
     known_array(&key);
     let sealed = match payload_of_records::<S>(alloc, key, records) {
         Err(error) => return Err(RecordError::Io(error)),
@@ -118,7 +120,7 @@ pub fn file_of_records<S: Suite, T: Recipient>(
 
 /// One of these records, once they were written as a file to the recipients and that was opened with the identities.
 ///
-/// Over a suite that keeps a full last chunk apart from one in the middle, and where there is one identity, which belongs to one of
+/// Where a full last chunk of the file doesn't open as one in the middle too, and there is one identity, which belongs to one of
 /// the recipients, a success is the record, and it refuses as `file_of_records` does, with `Record(NoSuchRecord)` where there are
 /// no more than `index` records, and else for want of memory alone. After a refusal `draw` is as `file_of_records` leaves it.
 pub fn record_through_file<S: Suite, T: Recipient, I: Identity>(
@@ -131,7 +133,8 @@ pub fn record_through_file<S: Suite, T: Recipient, I: Identity>(
     index: u64,
 ) -> Result<Vec<u8>, RecordFileError>
     ensures { (identity : I) → identities.old ≡ identity ∷ [] → BelongsToOne T.wraps I.unwraps recipients.now identity →
-        ((key text : List ℕ) → LastIsNoMiddle S.seal_of key text) → MatchResult result
+        PreparesApart T.wraps recipients.now (Some grease) draw.old draw.new S.seal_of (records_text (map vec_items records.now)) →
+        MatchResult result
         (λ bytes. slice_get (map vec_items records.now) index ≡ Some bytes.items)
         (RefusesThrough (λ e. Prepares T.wraps recipients.now (Some grease) draw.old (Err e) draw.new)
         (map vec_items records.now) index) }

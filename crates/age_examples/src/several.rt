@@ -1,8 +1,8 @@
 //! A file for several recipients, opened by the identity of one of them.
-ghost use Rattle.std.specs.Prelude.{◌≡◌, List, [], ◌∷◌, IfOk, IfErr};
+ghost use Rattle.std.specs.Prelude.{◌≡◌, ℕ, List, [], ◌∷◌, IfOk, IfErr, Some};
 ghost use Rattle.age.specs.Several.{BelongsToOne};
 ghost use Rattle.age.specs.Stanza.{StanzaValue};
-ghost use Rattle.age.specs.FileLaws.{KeepsApart};
+ghost use Rattle.age.specs.FileLaws.{PreparesApart};
 ghost use Rattle.age_examples.specs.Keys.{AlwaysGiveKeysBack, GiveKeysBack, RefusesFor};
 
 use age::armor::Format;
@@ -18,7 +18,7 @@ use std::alloc::Global;
 
 /// Encrypts a plaintext to all recipients, in this form, and decrypts the file with one identity: the plaintext.
 ///
-/// Where the identity belongs to one of the recipients, over a suite that keeps a full last chunk apart from one in the middle, a success
+/// Where the identity belongs to one of the recipients, and a full last chunk of the file doesn't open as one in the middle too, a success
 /// is the plaintext, and it refuses as `Encryptor::with_recipients` does, with `TooLong` for a plaintext past 2^60 bytes, or for want of
 /// memory, and for nothing else.
 pub fn opened_by_one<S: Suite, T: Recipient, I: Identity>(
@@ -30,13 +30,16 @@ pub fn opened_by_one<S: Suite, T: Recipient, I: Identity>(
     format: Format,
     plain: &[u8],
 ) -> Result<Vec<u8>, FileError>
-    ensures plaintext { BelongsToOne T.wraps I.unwraps recipients.now identity.old → KeepsApart S.seal_of →
+    ensures plaintext { BelongsToOne T.wraps I.unwraps recipients.now identity.old →
+        PreparesApart T.wraps recipients.now (Some grease) draw.old draw.new S.seal_of plain.now →
         IfOk result (λ given. given.items ≡ plain.now) }
-    ensures refused { BelongsToOne T.wraps I.unwraps recipients.now identity.old → KeepsApart S.seal_of →
+    ensures refused { BelongsToOne T.wraps I.unwraps recipients.now identity.old →
+        PreparesApart T.wraps recipients.now (Some grease) draw.old draw.new S.seal_of plain.now →
         IfErr result (RefusesFor T.wraps recipients.now grease draw.old draw.new plain.now) }
 {
     // Facts for the proof alone.
     several_recipients::<S, T, I>();
+    // For the proof alone: these are bytes, each below 256.
     known_bytes(plain);
     let mut file = Vec::new(alloc);
     let mut reader = Bytes::new(plain);
@@ -63,10 +66,13 @@ pub fn opened_by_one<S: Suite, T: Recipient, I: Identity>(
 /// - `always`: one identity that belongs to one of the recipients does.
 /// - `no_other`: identities that always give the file key that was wrapped give no other one.
 pub fn keys_come_back<S: Suite, T: Recipient, I: Identity>()
-    ensures always { (recipients : List T) (identity : I) (grease : StanzaValue) → BelongsToOne T.wraps I.unwraps recipients identity →
-        AlwaysGiveKeysBack T.wraps I.unwraps recipients grease (identity ∷ []) }
-    ensures no_other { (recipients : List T) (grease : StanzaValue) (identities : List I) →
-        AlwaysGiveKeysBack T.wraps I.unwraps recipients grease identities → GiveKeysBack T.wraps I.unwraps recipients grease identities }
+    ensures always { (recipients : List T) (identity : I) (grease : StanzaValue) (draws left : List ℕ)
+        → BelongsToOne T.wraps I.unwraps recipients identity →
+        AlwaysGiveKeysBack T.wraps I.unwraps recipients grease draws left (identity ∷ []) }
+    ensures no_other { (recipients : List T) (grease : StanzaValue) (draws left : List ℕ) (identities : List I) →
+        AlwaysGiveKeysBack T.wraps I.unwraps recipients grease draws left identities →
+        GiveKeysBack T.wraps I.unwraps recipients grease draws left identities }
 {
+    // A fact for the proof alone.
     several_recipients::<S, T, I>();
 }

@@ -1,6 +1,6 @@
 //! A file encrypted and decrypted in memory.
-ghost use Rattle.std.specs.Prelude.{◌≡◌, IfErr, IfOk};
-ghost use Rattle.age.specs.FileLaws.{KeepsApart};
+ghost use Rattle.std.specs.Prelude.{◌≡◌, IfErr, IfOk, Some};
+ghost use Rattle.age.specs.FileLaws.{PreparesApart};
 ghost use Rattle.age_examples.specs.Keys.{AlwaysGiveKeysBack, GiveKeysBack, RefusesFor};
 
 use age::draw::Draw;
@@ -16,7 +16,7 @@ use std::alloc::Global;
 /// Encrypts a plaintext to the recipients, and decrypts the file again with the identities.
 ///
 /// Where the identities give no other file key to what the recipients answer than the one that these wrapped, a success is the
-/// plaintext. Where they always give that one, over a suite that keeps a full last chunk apart from one in the middle, it refuses as
+/// plaintext. Where they always give that one, and a full last chunk of the file doesn't open as one in the middle too, it refuses as
 /// `Encryptor::with_recipients` does, and then no identity was asked, with `TooLong` for a plaintext past 2^60 bytes, or for want of
 /// memory, and for nothing else. After a refusal `draw` has lost what was taken before it, and nothing is given.
 pub fn there_and_back<S: Suite>(
@@ -28,10 +28,12 @@ pub fn there_and_back<S: Suite>(
     plain: &[u8],
 ) -> Result<Vec<u8>, FileError>
     ensures plaintext { GiveKeysBack ⟦<Box<dyn Recipient> as Recipient>⟧.wraps ⟦<Box<dyn Identity> as Identity>⟧.unwraps
-        recipients.now grease identities.old → IfOk result (λ back. back.items ≡ plain.now) }
+        recipients.now grease draw.old draw.new identities.old → IfOk result (λ back. back.items ≡ plain.now) }
     ensures refused { let wraps = ⟦<Box<dyn Recipient> as Recipient>⟧.wraps in
-        AlwaysGiveKeysBack wraps ⟦<Box<dyn Identity> as Identity>⟧.unwraps recipients.now grease identities.old →
-        KeepsApart S.seal_of → IfErr result (RefusesFor wraps recipients.now grease draw.old draw.new plain.now) }
+        let unwraps = ⟦<Box<dyn Identity> as Identity>⟧.unwraps in
+        AlwaysGiveKeysBack wraps unwraps recipients.now grease draw.old draw.new identities.old →
+        PreparesApart wraps recipients.now (Some grease) draw.old draw.new S.seal_of plain.now →
+        IfErr result (RefusesFor wraps recipients.now grease draw.old draw.new plain.now) }
 {
     // Facts for the proof alone, here and at the end.
     one_plaintext::<S>();

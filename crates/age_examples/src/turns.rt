@@ -23,10 +23,12 @@ fn byte_at<S: Suite, R: Seek>(reader: &mut StreamReader<S, R>, place: u64) -> Re
         HasChunk reader.old (place / 65536) → OnOk result (opens_of reader.new ≡ opens_of reader.old) }
     ensures steady { ⟦<StreamReader<S, R> as Read>⟧.steady reader.new ≡ ⟦<StreamReader<S, R> as Read>⟧.steady reader.old }
     ensures faults { ⟦<StreamReader<S, R> as Read>⟧.faults reader.old ≤ ⟦<StreamReader<S, R> as Read>⟧.faults reader.new }
-    ensures content { let read = ⟦<StreamReader<S, R> as Read>⟧ in IsTrue (read.tells reader.old) → read.content reader.new ≡ read.content reader.old }
+    ensures content { let read = ⟦<StreamReader<S, R> as Read>⟧ in
+        IsTrue (read.tells reader.old) → read.content reader.new ≡ read.content reader.old }
     ensures byte { let read = ⟦<StreamReader<S, R> as Read>⟧ in IsTrue (read.tells reader.old) → IsTrue (read.steady reader.old) →
         IfOk result (λ byte. slice_get (read.content reader.old).bytes place ≡ Some byte) }
-    ensures why { let read = ⟦<StreamReader<S, R> as Read>⟧ in IfErr result (λ e. IsSeekRefusal (OrTooLong R.seek_refuses) e ⊎ read.refuses reader.old e ⊎ ((e ≡ UnexpectedEof)
+    ensures why { let read = ⟦<StreamReader<S, R> as Read>⟧ in
+        IfErr result (λ e. IsSeekRefusal (OrTooLong R.seek_refuses) e ⊎ read.refuses reader.old e ⊎ ((e ≡ UnexpectedEof)
         × (IsTrue (read.tells reader.old) → IsTrue (read.steady reader.old) → slice_get (read.content reader.old).bytes place ≡ None))) }
     ensures narrows { OnOk result (AddsNoReason ⟦<StreamReader<S, R> as Read>⟧.refuses reader.old reader.new) }
     ensures cause { let read = ⟦<StreamReader<S, R> as Read>⟧ in IsTrue (read.tells reader.old) → IsTrue (read.steady reader.old) →
@@ -64,8 +66,10 @@ pub fn in_turns<S: Suite, R: Seek>(
     times: u64,
 ) -> Result<(u8, u8), Error>
     ensures bytes { let read = ⟦<StreamReader<S, R> as Read>⟧ in IsTrue (read.tells reader.old) → IsTrue (read.steady reader.old) →
-        IfOk result (λ found. (slice_get (read.content reader.old).bytes first ≡ Some found.0) × (slice_get (read.content reader.old).bytes second ≡ Some found.1)) }
-    ensures why { let read = ⟦<StreamReader<S, R> as Read>⟧ in IfErr result (λ e. IsSeekRefusal (OrTooLong R.seek_refuses) e ⊎ read.refuses reader.old e ⊎ ((e ≡ UnexpectedEof)
+        IfOk result (λ found. (slice_get (read.content reader.old).bytes first ≡ Some found.0)
+        × (slice_get (read.content reader.old).bytes second ≡ Some found.1)) }
+    ensures why { let read = ⟦<StreamReader<S, R> as Read>⟧ in
+        IfErr result (λ e. IsSeekRefusal (OrTooLong R.seek_refuses) e ⊎ read.refuses reader.old e ⊎ ((e ≡ UnexpectedEof)
         × (IsTrue (read.tells reader.old) → IsTrue (read.steady reader.old) →
         (slice_get (read.content reader.old).bytes first ≡ None) ⊎ (slice_get (read.content reader.old).bytes second ≡ None)))) }
     ensures opens { IsTrue (⟦<StreamReader<S, R> as Read>⟧.tells reader.old) → HasPlace (payload_of reader.old) first →

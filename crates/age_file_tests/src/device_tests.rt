@@ -143,7 +143,8 @@ struct Written<'a> {
 }
 
 impl<'a> Written<'a> {
-    // Whether it is written, or a beginning of it, to a device that fails at the call of this number; whether there is no such call; `None` where it is wrong.
+    // Whether it is written, or a beginning of it, to a device that fails at the
+    // call of this number; whether there is no such call; `None` where it is wrong.
     fn is_whole(&self, alloc: Global, call: u64) -> Result<Option<bool>, Fail> {
         let mut sink = Sink::new(alloc, Script::failing_at(call));
         let course = if self.armored {

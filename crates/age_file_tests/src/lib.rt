@@ -1,4 +1,5 @@
-//! Tests of whole files, of files from before the standard, of the plaintext of a file that is opened, of its parts, of bad armor and bad headers, and of the uses of `age`.
+//! Tests of whole files, of files from before the standard, of the plaintext of a file
+//! that is opened, of its parts, of bad armor and bad headers, and of the uses of `age`.
 #![tactic(auto)]
 
 #[cfg(test)]

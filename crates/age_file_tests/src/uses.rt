@@ -1,4 +1,5 @@
-//! The uses of `age` (`age_examples`) run over the insecure bench suite, and some over a second one. The texts that are expected come from a second implementation.
+//! The uses of `age` (`age_examples`) run over the insecure bench suite, and some
+//! over a second one. The texts that are expected come from a second implementation.
 
 mod fixtures;
 mod keys_tests;

@@ -31,7 +31,8 @@ gives before count given after = (given ≡ taken count before) × (after ≡ le
 -- what was appended to an empty list is written
 pub file_written : {W : Type 0} (items : W → List ℕ) (seal_of : Seal) (format : Format) (made : Prepared) (input : Stretch) (plain : List ℕ)
     (old new : W) →
-    input ≡ whole plain → items old ≡ [] → AreBytes plain → AppendsFile seal_of (λ a x b. items b ≡ items a ++ x) (text_of format) made input old new →
+    input ≡ whole plain → items old ≡ [] → AreBytes plain
+    → AppendsFile seal_of (λ a x b. items b ≡ items a ++ x) (text_of format) made input old new →
     IsWritten seal_of (text_of format) plain made (items new)
 file_written items seal_of format made input plain old new is empty bytes done =
     let same = ap (λ s. s.bytes) is in

@@ -5,7 +5,7 @@ use Rattle.age.specs.EncryptErrors.{OutOfMemory, ShortRandom, encrypt_refusal}
 use Rattle.age.specs.Members.{SuiteMembers, ReadMembers}
 use Rattle.age.specs.Types.{EncryptError}
 use Rattle.sazh_core.specs.Keygen.{key_file}
-use Rattle.sazh_core.specs.OwnRecipients.{AreOfIdentities, RefusesIdentities, recipients_text}
+use Rattle.sazh_core.specs.OwnRecipients.{AreOfIdentities, RefusesOwnIdentities, recipients_text}
 use Rattle.sazh_core.specs.declared.error.IdentitiesError.{IdentitiesError}
 
 -- The text of the key whose secret are the first 32 of the random bytes; or there are fewer, or memory was refused.
@@ -18,4 +18,4 @@ module _ {S T : Type 0} (text_read : ReadMembers T) (suite : SuiteMembers S) whe
   abbrev pub TellsRecipients : List ℕ → Result (List ℕ) IdentitiesError → Type 0
   TellsRecipients text answer = MatchResult answer
       (λ told. (keys : List (List ℕ)) × AreOfIdentities suite.public_of text keys × (told ≡ recipients_text keys))
-      (λ e. RefusesIdentities text_read S text e)
+      (λ e. RefusesOwnIdentities text_read S text e)

@@ -16,4 +16,5 @@ use Rattle.sazh_core.specs.declared.error.PassphraseError.{PassphraseError}
 abbrev pub OpensHeaderUnder : (PassphraseIdentity → List StanzaValue → UnwrapAnswer → PassphraseIdentity → Type 0) → List ℕ → List ℕ
     → Result (Option PayloadAt) (GivenError PassphraseError DecryptError) → Type 0
 OpensHeaderUnder unwraps text front answer = WithGiven (λ e. RefusesPassphrase e text) (Unit {0}) (λ (secret : List ℕ). secret ≡ first_line text)
-    (λ secret done. (asked : List PassphraseIdentity) × OpensHeader unwraps (knows secret ∷ []) asked front done) (λ _ done told. Answers done told) answer
+    (λ secret done. (asked : List PassphraseIdentity) × OpensHeader unwraps (knows secret ∷ []) asked front done)
+    (λ _ done told. Answers done told) answer

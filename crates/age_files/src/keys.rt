@@ -1,5 +1,5 @@
 //! Keys over slices: new ones, with random bytes that are handed in, and the recipients of identities.
-ghost use Rattle.std.specs.Prelude.{◌≡◌, ◌<◌, ℕ, List, vec_items, Result};
+ghost use Rattle.std.specs.Prelude.{◌<◌, ℕ, List, vec_items, Result};
 ghost use Rattle.std.specs.Result.{result_map_both};
 ghost use Rattle.age.specs.Types.{EncryptError as encrypt_error};
 ghost use Rattle.age_files.specs.Keys.{MakesKey, TellsRecipients};

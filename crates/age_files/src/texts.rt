@@ -2,8 +2,8 @@
 ghost use Rattle.std.specs.Prelude.{◌≡◌, ◌≤◌, length};
 ghost use Rattle.age_files.specs.Texts.{status_text};
 
-/// The text of a status: a line without its end, in ASCII, of at most 64 bytes. Where a refusal of the library prints no number and no name, it says the
-/// same. A number that no call answers has a text of its own.
+/// The text of a status: a line without its end, in ASCII, of at most 64 bytes. Where a refusal of the library
+/// prints no number and no name, it says the same. A number that no call answers has a text of its own.
 pub fn text_of(status: u32) -> &'static str
     ensures text { result.now ≡ status_text status }
     ensures short { length result.now ≤ 64 }

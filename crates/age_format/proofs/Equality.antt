@@ -1,5 +1,5 @@
 -- Stanzas that are compared, and stanzas that are copied.
-use Rattle.std.proofs.Common.{◌≡◌, ℕ, Bool, true, false, List, [], ◌∷◌, map, refl, ap, sym, ◌∙◌, ◌↔◌, IsTrue}
+use Rattle.std.proofs.Common.{◌≡◌, ℕ, Bool, true, List, [], ◌∷◌, map, refl, ap, sym, ◌∙◌, ◌↔◌, IsTrue}
 use Rattle.std.specs.Prelude.{◌&&◌, nat_eq}
 use Rattle.std.specs.Bool.{Decides}
 use Rattle.std.specs.List.{AllZip}
@@ -12,14 +12,6 @@ use Rattle.std.specs.Cmp.{IsEquivalence, and_equiv}
 use Rattle.age_v1.specs.HeaderTexts.{stanza_eq}
 use Rattle.age_v1.specs.Stanza.{StanzaValue}
 use Rattle.age_v1.proofs.Headers.{same_value}
-
-pub both_then : (v r x y : Bool) → v ≡ true → v ≡ x → r ≡ y → r ≡ (x && y)
-both_then v r true y t e h = h
-both_then v r false y t e h = let bad : Path Bool true false = sym t ∙ e in cc
-
-pub both_else : (v x y : Bool) → v ≡ false → v ≡ x → v ≡ (x && y)
-both_else v true y f e = let bad : Path Bool false true = sym f ∙ e in cc
-both_else v false y f e = f
 
 told : (b : Bool) (P : Type 0) → Decides b P → b ≡ true → P
 told b P h e = h.0 e

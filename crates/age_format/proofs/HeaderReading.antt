@@ -32,7 +32,8 @@ took_verdict own old middle new start place end t b v same so_far here moved ste
     }
 
 -- memory was refused for the byte after a front that decides nothing
-pub ran_out_after : {legacy : Bool} (own : Bool) (old middle new : Stretch) (start place end : ℕ) (t : List ℕ) (b : ℕ) → own ≡ legacy → Delivers t old middle
+pub ran_out_after : {legacy : Bool} (own : Bool) (old middle new : Stretch) (start place end : ℕ) (t : List ℕ) (b : ℕ) → own ≡ legacy
+    → Delivers t old middle
     → Delivers (b ∷ []) middle new → place ≡ start + length t → end ≡ place + 1 → IsUndecided own t → RunsOut legacy old new start end
 ran_out_after {legacy} own old middle new start place end t b is so_far here moved step quiet = record {
   front = t ++ b ∷ [];
@@ -65,11 +66,13 @@ memory_or_io (io.NotIdentity line) = inr ((λ e. cc), refl)
 memory_or_io io.Failed = inr ((λ e. cc), refl)
 
 -- where no fault came in all, none came at the end
-still_quiet : (old_faults faults new_faults : ℕ) → old_faults ≤ faults → faults ≤ new_faults → IsQuiet old_faults new_faults → IsQuiet faults new_faults
+still_quiet : (old_faults faults new_faults : ℕ) → old_faults ≤ faults → faults ≤ new_faults → IsQuiet old_faults new_faults
+    → IsQuiet faults new_faults
 still_quiet old_faults faults new_faults before after still = record { same = omega (arith, still.same); below = still.below }
 
 -- the reader refused after a front that decides nothing
-pub reader_refused : {legacy : Bool} (own : Bool) (old_faults faults new_faults : ℕ) (old middle new : Stretch) (start place end : ℕ) (t : List ℕ) (e : Error)
+pub reader_refused : {legacy : Bool} (own : Bool) (old_faults faults new_faults : ℕ) (old middle new : Stretch) (start place end : ℕ) (t : List ℕ)
+    (e : Error)
     → own ≡ legacy → Delivers t old middle → StaysOrFails middle new → place ≡ start + length t → end ≡ place → IsUndecided own t
     → old_faults ≤ faults → faults ≤ new_faults → (e ≢ io.OutOfMemory → IsQuiet faults new_faults → IsShort 1 middle e)
     → RefusesHeader legacy old_faults new_faults old new start end (decrypt_refusal (decrypt_of_io e))
@@ -77,11 +80,12 @@ reader_refused {legacy} own old_faults faults new_faults old middle new start pl
     let quiet = subst (λ l. IsUndecided l t) is undecided in
     let took : TookFront old new start end t = record { middle = middle; delivered = so_far; left = left; moved = stays ∙ moved } in
     elim (memory_or_io e) [
-      | inl memory ↦ subst (λ x. RefusesHeader legacy old_faults new_faults old new start end (decrypt_refusal (decrypt_of_io x))) (sym memory) (record {
-        front = t;
-        took = took;
-        shortest = λ shorter b more v same k. quiet shorter (b ∷ more) v same k;
-      })
+      | inl memory ↦ subst (λ x. RefusesHeader legacy old_faults new_faults old new start end (decrypt_refusal (decrypt_of_io x))) (sym memory)
+          (record {
+            front = t;
+            took = took;
+            shortest = λ shorter b more v same k. quiet shorter (b ∷ more) v same k;
+          })
       | inr (other, same) ↦ subst (λ x. RefusesHeader legacy old_faults new_faults old new start end (decrypt_refusal x)) (sym same) (record {
         front = t;
         took = took;
@@ -103,11 +107,13 @@ each_stanza legacy text (s ∷ stanzas) texts =
     (is.stanza, each_stanza legacy rest stanzas others)
 
 -- what a header text says can stand in a header
-pub header_of : (legacy : Bool) (text : List ℕ) (stanzas : List StanzaValue) (mac : List ℕ) → IsHeaderText legacy text stanzas mac → IsHeader stanzas mac
+pub header_of : (legacy : Bool) (text : List ℕ) (stanzas : List StanzaValue) (mac : List ℕ) → IsHeaderText legacy text stanzas mac
+    → IsHeader stanzas mac
 header_of legacy text stanzas mac h = record { each = each_stanza legacy h.middle stanzas h.texts; some = h.some; is_mac = h.is_mac }
 
 -- a header text ends with what the MAC doesn't cover
-pub has_uncovered : (legacy : Bool) (text : List ℕ) (stanzas : List StanzaValue) (mac : List ℕ) → IsHeaderText legacy text stanzas mac → 45 ≤ length text
+pub has_uncovered : (legacy : Bool) (text : List ℕ) (stanzas : List StanzaValue) (mac : List ℕ) → IsHeaderText legacy text stanzas mac
+    → 45 ≤ length text
 unfolding mac_line
 has_uncovered legacy text stanzas mac h =
     let last : List ℕ = line (mac_line mac) in

@@ -1,6 +1,6 @@
 -- What the parts of a line say.
 use Rattle.std.proofs.Common.{◌≡◌, ◌≢◌, ◌==◌, ℕ, suc, zero, ◌+◌, ◌^◌, ◌<◌, ◌≤◌, false, List, [], ◌∷◌, ◌++◌, length, take, drop, map, get_or, refl, ap, sym, arith, subst, ◌∙◌}
-use Rattle.std.proofs.lemmas.List.{append_cancel_left, take_more, take_all, map-append}
+use Rattle.std.proofs.lemmas.List.{append_cancel_left, take_all}
 use Rattle.std.proofs.lemmas.List.Splits.{slice_split_none, slice_split_at, join_with_byte-slice_split, length-slice_split}
 use Rattle.std.proofs.lemmas.List.Elements.{All-from_recursion, All-nil}
 use Rattle.std.specs.Prelude.{codes}
@@ -52,7 +52,8 @@ split_words w (v ∷ ws) h =
     slice_split_at (λ b. b == 32) w 32 (join_with_byte 32 (v ∷ ws)) (All-from_recursion (λ x. (x == 32) ≡ false) w (not_space w h.0.1)) refl
     ∙ ap (λ x. w ∷ x) (split_words v ws h.1)
 
-string_at : {X : Type 0} (f : X → List ℕ) (xs : List X) (i : ℕ) (x : X) → i < length xs → AllByRecursion IsString (map f xs) → IsString (f (get_or xs i x))
+string_at : {X : Type 0} (f : X → List ℕ) (xs : List X) (i : ℕ) (x : X) → i < length xs → AllByRecursion IsString (map f xs)
+    → IsString (f (get_or xs i x))
 string_at f [] i x lt h = absurd (omega arith)
 string_at f (y ∷ xs) zero x lt h = h.0
 string_at f (y ∷ xs) (suc i) x lt h = string_at f xs i x (omega arith) h.1
@@ -74,28 +75,20 @@ both : (xs : List (List ℕ)) (x : List ℕ) → AllByRecursion IsString xs → 
 both [] x h k = (k, tt)
 both (y ∷ xs) x h k = (h.0, both xs x h.1 k)
 
-pub strings_more : {X : Type 0} (f : X → List ℕ) (xs : List X) (i : ℕ) (x : X) → i < length xs → x ≡ get_or xs i x → IsString (f x)
-    → AllByRecursion IsString (map f (take i xs)) → AllByRecursion IsString (map f (take (i + 1) xs))
-strings_more f xs i x lt is here before =
-    let more : take (i + 1) xs ≡ take i xs ++ x ∷ [] = take_more xs i x lt ∙ ap (λ y. take i xs ++ y ∷ []) (sym is) in
-    let parts : map f (take (i + 1) xs) ≡ map f (take i xs) ++ f x ∷ [] = ap (map f) more ∙ map-append f (take i xs) (x ∷ []) in
-    subst (AllByRecursion IsString) (sym parts) (both (map f (take i xs)) (f x) before here)
-
-pub same_more : {X Y : Type 0} (f : X → List ℕ) (g : Y → List ℕ) (xs : List X) (ys zs : List Y) (i : ℕ) (x : X) (y : Y) → i < length xs → x ≡ get_or xs i x
-    → zs ≡ ys ++ y ∷ [] → g y ≡ f x → map g ys ≡ map f (take i xs) → map g zs ≡ map f (take (i + 1) xs)
-same_more f g xs ys zs i x y lt is ez e before =
-    let more : take (i + 1) xs ≡ take i xs ++ x ∷ [] = take_more xs i x lt ∙ ap (λ y. take i xs ++ y ∷ []) (sym is) in
-    ap (map g) ez ∙ map-append g ys (y ∷ []) ∙ ap (λ t. t ++ g y ∷ []) before ∙ ap (λ t. map f (take i xs) ++ t ∷ []) e ∙ sym (ap (map f) more ∙ map-append f (take i xs) (x ∷ []))
-
 split_some : (text : List ℕ) → slice_split (λ b. b == 32) text ≢ []
 split_some text e = omega (arith, ap length e, length-slice_split (λ b. b == 32) text)
 
-pub words_done : {X Y : Type 0} (f : X → List ℕ) (g : Y → List ℕ) (xs : List X) (ys : List Y) (i : ℕ) (text : List ℕ) → map f xs ≡ slice_split (λ b. b == 32) text
+pub words_done : {X Y : Type 0} (f : X → List ℕ) (g : Y → List ℕ) (xs : List X) (ys : List Y) (i : ℕ) (text : List ℕ)
+    → map f xs ≡ slice_split (λ b. b == 32) text
     → length xs ≤ i → map g ys ≡ map f (take i xs) → AllByRecursion IsString (map f (take i xs))
     → (map g ys ≢ []) × AllByRecursion IsString (map g ys) × (join_with_byte 32 (map g ys) ≡ text)
 words_done f g xs ys i text parts end same strings =
-    let whole : map g ys ≡ slice_split (λ b. b == 32) text = same ∙ ap (map f) (take_all i xs end) ∙ parts in
-    (λ e. split_some text (sym whole ∙ e), subst (AllByRecursion IsString) (sym same) strings, ap (join_with_byte 32) whole ∙ join_with_byte-slice_split 32 text)
+    let whole : map g ys ≡ slice_split (λ b. b == 32) text = same ∙ ap (map f) (take_all i xs end) ∙ parts in (
+      λ e. split_some text (sym whole ∙ e),
+      subst (AllByRecursion IsString) (sym same) strings,
+      ap (join_with_byte 32) whole
+          ∙ join_with_byte-slice_split 32 text,
+    )
 
 pub first_line_other : (text : List ℕ) → ((rest : List ℕ) → text ≢ codes "-> " ++ rest) → (s : StanzaValue) → IsStanza s → first_line s ≡ text → ⊥
 unfolding first_line
@@ -113,11 +106,13 @@ pub first_line_some : (text rest : List ℕ) (s : StanzaValue) (ws : List (List 
 unfolding first_line
 first_line_some text rest s ws t w e = ap (λ x. codes "-> " ++ join_with_byte 32 x) (sym w) ∙ ap (λ x. codes "-> " ++ x) e ∙ sym t
 
-pub first_word : {X : Type 0} (f : X → List ℕ) (ws ys : List X) (x : X) → map f ws ≢ [] → x ≡ get_or ws 0 x → ys ≡ drop 1 ws → map f ws ≡ f x ∷ map f ys
+pub first_word : {X : Type 0} (f : X → List ℕ) (ws ys : List X) (x : X) → map f ws ≢ [] → x ≡ get_or ws 0 x → ys ≡ drop 1 ws
+    → map f ws ≡ f x ∷ map f ys
 first_word f [] ys x some is rest = absurd (some refl)
 first_word f (w ∷ ws) ys x some is rest = ap (λ y. f y ∷ map f ws) (sym is) ∙ ap (λ y. f x ∷ map f y) (sym rest)
 
-pub empty_stanza : (s : StanzaValue) (text rest tag : List ℕ) (args words : List (List ℕ)) (body : List ℕ) → s ≡ record { tag = tag; args = args; body = body }
+pub empty_stanza : (s : StanzaValue) (text rest tag : List ℕ) (args words : List (List ℕ)) (body : List ℕ)
+    → s ≡ record { tag = tag; args = args; body = body }
     → body ≡ [] → IsString tag → AllByRecursion IsString args → text ≡ codes "-> " ++ rest → words ≡ tag ∷ args → join_with_byte 32 words ≡ rest
     → IsStanza s × (s.body ≡ []) × (first_line s ≡ text)
 empty_stanza s text rest tag args words body is empty ht ha t w e =

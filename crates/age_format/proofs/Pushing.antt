@@ -23,7 +23,8 @@ module _ (legacy : Bool) where
       let quiet = allowed_quiet legacy st (take start t) (drop start t) h in
       record {
         behind = omega (arith, ee);
-        undecided = subst (IsUndecided legacy) (sym en) (undecided_more legacy t 10 before (λ v k. quiet v (subst (λ x. FrontDecides legacy x v) (last_line t start) k)));
+        undecided = subst (IsUndecided legacy) (sym en)
+            (undecided_more legacy t 10 before (λ v k. quiet v (subst (λ x. FrontDecides legacy x v) (last_line t start) k)));
         at = subst (IsAt legacy st) (sym (take_all end new (omega (arith, ee)) ∙ whole)) h;
         lacks = subst (Lacks 10) (sym (drop_all end new (omega (arith, ee)))) tt;
       }
@@ -35,5 +36,6 @@ module _ (legacy : Bool) where
     behind = omega (arith, h.behind, ap length en, length-append t (b ∷ []));
     undecided = subst (IsUndecided legacy) (sym en) (undecided_more legacy t b h.undecided quiet);
     at = subst (IsAt legacy st) (sym (ap (take start) en ∙ take-append-le start t (b ∷ []) h.behind)) h.at;
-    lacks = subst (Lacks 10) (sym (ap (drop start) en ∙ drop-append-le start t (b ∷ []) h.behind)) (Lacks-append 10 (drop start t) (b ∷ []) h.lacks (ne, tt));
+    lacks = subst (Lacks 10) (sym (ap (drop start) en ∙ drop-append-le start t (b ∷ []) h.behind))
+        (Lacks-append 10 (drop start t) (b ∷ []) h.lacks (ne, tt));
   }

@@ -28,7 +28,8 @@ GoesAfter legacy text d l = (more : List ℕ) (ss : List StanzaValue) (m : List 
 
 -- a header that goes on from the text makes these of the rest
 abbrev pub GoesInBody : Bool → StanzaValue → List ℕ → List StanzaValue → Type 0
-GoesInBody legacy z text d = (more : List ℕ) (ss : List StanzaValue) (m : List ℕ) → IsHeaderText legacy (text ++ more) ss m → IsBodyAndTail legacy z more d ss m
+GoesInBody legacy z text d = (more : List ℕ) (ss : List StanzaValue) (m : List ℕ) → IsHeaderText legacy (text ++ more) ss m
+    → IsBodyAndTail legacy z more d ss m
 
 pub pushed_some : (d : List StanzaValue) (s : StanzaValue) → d ++ s ∷ [] ≢ []
 pushed_some [] s e = cc
@@ -56,7 +57,8 @@ too_long b l hb told long c hc small e =
 
 module _ (legacy : Bool) where
   -- a stanza's first line opens its body
-  pub opens_body : (text l middle : List ℕ) (z : StanzaValue) (d : List StanzaValue) → AreStanzaTexts legacy middle d → text ≡ line version_line ++ middle
+  pub opens_body : (text l middle : List ℕ) (z : StanzaValue) (d : List StanzaValue) → AreStanzaTexts legacy middle d
+      → text ≡ line version_line ++ middle
       → IsStanza z → z.body ≡ [] → first_line z ≡ l → Lacks 10 l → GoesAfter legacy text d l
       → IsInBody legacy z (text ++ line l) d × GoesInBody legacy z (text ++ line l) d
   opens_body text l middle z d texts spelled hz empty told lacks goes = (
@@ -79,7 +81,8 @@ module _ (legacy : Bool) where
 
   -- a line that is neither a stanza's first nor the MAC's
   pub bad_after : (text l middle : List ℕ) (d : List StanzaValue) → text ≡ line version_line ++ middle → Lacks 10 l → GoesAfter legacy text d l
-      → ((s : StanzaValue) → IsStanza s → first_line s ≡ l → ⊥) → ((m : List ℕ) → AreBytesOf 32 m → mac_line m ≡ l → ⊥) → EndsInBadLine legacy (text ++ line l)
+      → ((s : StanzaValue) → IsStanza s → first_line s ≡ l → ⊥) → ((m : List ℕ) → AreBytesOf 32 m → mac_line m ≡ l → ⊥)
+      → EndsInBadLine legacy (text ++ line l)
   bad_after text l middle d spelled lacks goes none no_mac = bad_line legacy text middle l spelled (λ more ss m h.
       (let (others, list, tail) = goes more ss m h in
       elim (tail_line legacy l more others m lacks tail) [
@@ -89,7 +92,8 @@ module _ (legacy : Bool) where
 
   -- where a stanza must come
   pub bad_first : (text l : List ℕ) → text ≡ line version_line → Lacks 10 l
-      → ((more : List ℕ) (ss : List StanzaValue) (m : List ℕ) → IsHeaderText legacy (text ++ (line l ++ more)) ss m → (ss ≢ []) × IsTail legacy (line l ++ more) ss m)
+      → ((more : List ℕ) (ss : List StanzaValue) (m : List ℕ) → IsHeaderText legacy (text ++ (line l ++ more)) ss m
+      → (ss ≢ []) × IsTail legacy (line l ++ more) ss m)
       → ((s : StanzaValue) → IsStanza s → first_line s ≡ l → ⊥) → EndsInBadLine legacy (text ++ line l)
   bad_first text l spelled lacks goes none = bad_line legacy text [] l (spelled ∙ sym (append-nil (line version_line))) (λ more ss m h.
       (let (some, tail) = goes more ss m h in
@@ -105,14 +109,20 @@ module _ (legacy : Bool) where
     texts = texts;
     some = some;
     is_mac = mac;
-    spelled = ap (λ x. x ++ line l) spelled ∙ append_assoc (line version_line) middle (line l) ∙ ap (λ x. line version_line ++ (middle ++ line x)) (sym told);
+    spelled = ap (λ x. x ++ line l) spelled ∙ append_assoc (line version_line) middle (line l)
+        ∙ ap (λ x. line version_line ++ (middle ++ line x)) (sym told);
   }
 
   -- the text of a body, from its lines
   body_text_back : (k : ℕ) (x b : List ℕ) → IsBody legacy k x b → IsBodyText legacy x b
   body_text_back zero x b (small, inl e) = inl (e ∙ sym (body_text_short b small))
   body_text_back zero x b (small, inr e) =
-      inr (e.0, omega (arith, length-columns b, ap length e.1), ap line e.2 ∙ sym (ap body_text e.1 ∙ body_text_short [] (omega arith) ∙ ap line none))
+      inr (
+        e.0,
+        omega (arith, length-columns b, ap length e.1),
+        ap line e.2
+            ∙ sym (ap body_text e.1 ∙ body_text_short [] (omega arith) ∙ ap line none),
+      )
     where
       none : columns [] ≡ []
       none = nil_from_length (columns []) (omega (arith, length-columns []))
@@ -121,30 +131,47 @@ module _ (legacy : Bool) where
     | inr e ↦ inr (
       e.0,
       (omega (arith, e.1, length-columns b, length-columns c, ap length parts, length-append p c)),
-      ap line text ∙ append_assoc (line (columns p)) y (10 ∷ []) ∙ ap (λ t. line (columns p) ++ t) e.2 ∙ sym (ap body_text parts ∙ body_text_long p c size),
+      ap line text ∙ append_assoc (line (columns p)) y (10 ∷ []) ∙ ap (λ t. line (columns p) ++ t) e.2
+          ∙ sym (ap body_text parts ∙ body_text_long p c size),
     )
   ]
 
   -- the text of a stanza, from its first line and the lines of its body
-  pub stanza_text_back : (k : ℕ) (x : List ℕ) (s : StanzaValue) → IsStanza s → IsBody legacy k x s.body → IsStanzaText legacy (line (first_line s) ++ x) s
+  pub stanza_text_back : (k : ℕ) (x : List ℕ) (s : StanzaValue) → IsStanza s → IsBody legacy k x s.body
+      → IsStanzaText legacy (line (first_line s) ++ x) s
   unfolding stanza_text
   stanza_text_back k x s hs h = elim (body_text_back k x s.body h) [
     | inl e ↦ record { stanza = hs; spelled = inl (ap (λ t. line (first_line s) ++ t) e) }
-    | inr e ↦ record { stanza = hs; spelled = inr (e.0, (e.1, append_assoc (line (first_line s)) x (10 ∷ []) ∙ ap (λ t. line (first_line s) ++ t) e.2)) }
+    | inr e ↦ record {
+      stanza = hs;
+      spelled =
+          inr (e.0, (e.1, append_assoc (line (first_line s)) x (10 ∷ []) ∙ ap (λ t. line (first_line s) ++ t) e.2));
+    }
   ]
 
-  pub texts_push : (middle t : List ℕ) (d : List StanzaValue) (s : StanzaValue) → AreStanzaTexts legacy middle d → IsStanzaText legacy t s → AreStanzaTexts legacy (middle ++ t) (d ++ s ∷ [])
+  pub texts_push : (middle t : List ℕ) (d : List StanzaValue) (s : StanzaValue) → AreStanzaTexts legacy middle d → IsStanzaText legacy t s
+      → AreStanzaTexts legacy (middle ++ t) (d ++ s ∷ [])
   texts_push middle t [] s h k = (t, [], ap (λ x. x ++ t) h ∙ sym (append-nil t), k, refl)
-  texts_push middle t (z ∷ d) s (a, b, parts, here, rest) k = (a, b ++ t, ap (λ x. x ++ t) parts ∙ append_assoc a b t, here, texts_push b t d s rest k)
+  texts_push middle t (z ∷ d) s (a, b, parts, here, rest) k =
+      (a, b ++ t, ap (λ x. x ++ t) parts ∙ append_assoc a b t, here, texts_push b t d s rest k)
 
   -- the legacy form: a line with a hyphen ends the body
-  pub closes_legacy : legacy ≡ true → (text l rest : List ℕ) (s : StanzaValue) (d : List StanzaValue) → IsInBody legacy s text d → l ≡ 45 ∷ rest → Lacks 10 l
+  pub closes_legacy : legacy ≡ true → (text l rest : List ℕ) (s : StanzaValue) (d : List StanzaValue) → IsInBody legacy s text d → l ≡ 45 ∷ rest
+      → Lacks 10 l
       → GoesInBody legacy s text d → IsAfterBody legacy text (d ++ s ∷ []) × GoesAfter legacy text (d ++ s ∷ []) l
   closes_legacy allowed text l rest s d read hyphen lacks goes =
       let lines = read.grows [] [] zero (omega arith, inr (allowed, refl, refl)) in
-      let body : IsBody legacy lines.0 read.whole s.body = subst (λ x. IsBody legacy lines.0 x s.body) (append-nil read.whole) (subst (IsBody legacy lines.0 (read.whole ++ [])) (append-nil s.body) lines.1) in
+      let body : IsBody legacy lines.0 read.whole s.body =
+      subst (λ x. IsBody legacy lines.0 x s.body) (append-nil read.whole)
+      (subst (IsBody legacy lines.0 (read.whole ++ [])) (append-nil s.body) lines.1) in
       let t : List ℕ = line (first_line s) ++ read.whole in (
-        (read.middle ++ t, pushed_some d s, texts_push read.middle t d s read.texts (stanza_text_back lines.0 read.whole s read.stanza body), read.spelled),
+        (
+          read.middle ++ t,
+          pushed_some d s,
+          texts_push read.middle t d s read.texts
+              (stanza_text_back lines.0 read.whole s read.stanza body),
+          read.spelled,
+        ),
         λ more ss m h.
             (let over = hyphen_over legacy s l more rest d ss m lacks hyphen (goes (line l ++ more) ss m h) in
             (over.others, over.list ∙ sym (append_assoc d (s ∷ []) over.others), over.tail)),
@@ -162,13 +189,18 @@ module _ (legacy : Bool) where
       stanza = grown_stanza s b read.stanza each;
       grows = λ x c k h.
           (let r = read.grows (line (columns b) ++ x) (b ++ c) (suc k) (b, c, x, size, refl, refl, h) in
-          let e : read.whole ++ (line (columns b) ++ x) ≡ (read.whole ++ line l) ++ x = ap (λ t. read.whole ++ (line t ++ x)) told ∙ sym (append_assoc read.whole (line l) x) in
-          (r.0, subst (λ t. IsBody legacy r.0 t ((s.body ++ b) ++ c)) e (subst (IsBody legacy r.0 (read.whole ++ (line (columns b) ++ x))) (sym (append_assoc s.body b c)) r.1)));
+          let e : read.whole ++ (line (columns b) ++ x) ≡ (read.whole ++ line l) ++ x =
+          ap (λ t. read.whole ++ (line t ++ x)) told ∙ sym (append_assoc read.whole (line l) x) in (
+            r.0,
+            subst (λ t. IsBody legacy r.0 t ((s.body ++ b) ++ c)) e
+                (subst (IsBody legacy r.0 (read.whole ++ (line (columns b) ++ x))) (sym (append_assoc s.body b c)) r.1),
+          ));
       spelled = spelled_more text l read.middle (line (first_line s)) read.whole read.spelled
           ∙ ap (λ t. line version_line ++ (read.middle ++ (line t ++ (read.whole ++ line l)))) (sym (same_head s b));
     },
     λ more ss m h.
-        elim (other_body legacy s l more d ss m lacks none (goes (line l ++ more) ss m (subst (λ x. IsHeaderText legacy x ss m) (regroup text l more) h))) [
+        elim (other_body legacy s l more d ss m lacks none
+        (goes (line l ++ more) ss m (subst (λ x. IsHeaderText legacy x ss m) (regroup text l more) h))) [
           | inl final ↦
               let same : final.bytes ≡ b = columns_same final.bytes b final.each each (final.told ∙ sym told) in
               absurd (omega (arith, ap length same, final.small))
@@ -187,17 +219,20 @@ module _ (legacy : Bool) where
   closes_body text l b s d read lacks none goes each told small =
       let z : StanzaValue = grown s b in
       let lines = read.grows (line (columns b)) b zero (small, inl refl) in
-      let body : IsBody legacy lines.0 (read.whole ++ line l) z.body = subst (λ t. IsBody legacy lines.0 (read.whole ++ line t) (s.body ++ b)) told lines.1 in
+      let body : IsBody legacy lines.0 (read.whole ++ line l) z.body =
+      subst (λ t. IsBody legacy lines.0 (read.whole ++ line t) (s.body ++ b)) told lines.1 in
       let hz : IsStanza z = grown_stanza s b read.stanza each in
       let t : List ℕ = line (first_line z) ++ (read.whole ++ line l) in (
         (
           read.middle ++ t,
           pushed_some d z,
           texts_push read.middle t d z read.texts (stanza_text_back lines.0 (read.whole ++ line l) z hz body),
-          spelled_more text l read.middle (line (first_line s)) read.whole read.spelled ∙ ap (λ t. line version_line ++ (read.middle ++ (line t ++ (read.whole ++ line l)))) (sym (same_head s b)),
+          spelled_more text l read.middle (line (first_line s)) read.whole read.spelled
+              ∙ ap (λ t. line version_line ++ (read.middle ++ (line t ++ (read.whole ++ line l)))) (sym (same_head s b)),
         ),
         λ more ss m h.
-            elim (other_body legacy s l more d ss m lacks none (goes (line l ++ more) ss m (subst (λ x. IsHeaderText legacy x ss m) (regroup text l more) h))) [
+            elim (other_body legacy s l more d ss m lacks none
+            (goes (line l ++ more) ss m (subst (λ x. IsHeaderText legacy x ss m) (regroup text l more) h))) [
               | inl final ↦
                   let same : final.bytes ≡ b = columns_same final.bytes b final.each each (final.told ∙ sym told) in
                   (final.others, final.list ∙ ap (λ x. d ++ grown s x ∷ final.others) same ∙ sym (append_assoc d (z ∷ []) final.others), final.tail)
@@ -209,9 +244,11 @@ module _ (legacy : Bool) where
 
   -- a line that is no columns of at most 48 bytes
   pub bad_body : (text l : List ℕ) (s : StanzaValue) (d : List StanzaValue) → IsInBody legacy s text d → Lacks 10 l
-      → (legacy ≡ true → (rest : List ℕ) → l ≡ 45 ∷ rest → ⊥) → GoesInBody legacy s text d → ((b : List ℕ) → AreBytes b → length b ≤ 48 → columns b ≡ l → ⊥)
+      → (legacy ≡ true → (rest : List ℕ) → l ≡ 45 ∷ rest → ⊥) → GoesInBody legacy s text d
+      → ((b : List ℕ) → AreBytes b → length b ≤ 48 → columns b ≡ l → ⊥)
       → EndsInBadLine legacy (text ++ line l)
-  bad_body text l s d read lacks none goes bad = bad_line legacy text (read.middle ++ (line (first_line s) ++ read.whole)) l read.spelled (λ more ss m h.
+  bad_body text l s d read lacks none goes bad =
+      bad_line legacy text (read.middle ++ (line (first_line s) ++ read.whole)) l read.spelled (λ more ss m h.
       elim (other_body legacy s l more d ss m lacks none (goes (line l ++ more) ss m h)) [
         | inl final ↦ bad final.bytes final.each (omega (arith, final.small)) final.told
         | inr whole ↦ bad whole.piece whole.each (omega (arith, whole.size)) whole.told
@@ -228,6 +265,7 @@ module _ (legacy : Bool) where
     hopeless = λ more ss m h. known (split_line l version_line more (h.middle ++ line (mac_line m)) lacks version_line_lacks h.spelled).0;
     known = λ u.
         (let e : line l ++ [] ≡ line (magic ++ u.version) ++ [] = ap (λ x. x ++ []) u.spelled in
-        let lacks' : Lacks 10 (magic ++ u.version) = Lacks-append 10 magic u.version (lacks_tested 10 magic refl) (Lacks_string 10 (omega arith) u.version u.string.1) in
+        let lacks' : Lacks 10 (magic ++ u.version) =
+        Lacks-append 10 magic u.version (lacks_tested 10 magic refl) (Lacks_string 10 (omega arith) u.version u.string.1) in
         other u.version u.string u.other (split_line l (magic ++ u.version) [] [] lacks lacks' e).0);
   })

@@ -79,16 +79,19 @@ columns_start [] h rest e = cc
 columns_start (c ∷ cols) h rest e = let same : c ≡ 45 = cc in h.0.2 same
 
 module _ (legacy : Bool) where
-  pub tail_line : (l more : List ℕ) (ss : List StanzaValue) (m : List ℕ) → Lacks 10 l → IsTail legacy (line l ++ more) ss m → IsLast l more ss m ⊎ IsNext legacy l more ss m
+  pub tail_line : (l more : List ℕ) (ss : List StanzaValue) (m : List ℕ) → Lacks 10 l → IsTail legacy (line l ++ more) ss m
+      → IsLast l more ss m ⊎ IsNext legacy l more ss m
   tail_line l more [] m lacks h =
-      let e : line l ++ more ≡ line (mac_line m) ++ [] = h.spelled ∙ ap (λ x. x ++ line (mac_line m)) h.texts ∙ sym (append-nil (line (mac_line m))) in
+      let e : line l ++ more ≡ line (mac_line m) ++ [] =
+      h.spelled ∙ ap (λ x. x ++ line (mac_line m)) h.texts ∙ sym (append-nil (line (mac_line m))) in
       let r = split_line l (mac_line m) more [] lacks (mac_line_lacks m h.is_mac) e in
       inl (record { none = refl; is_mac = h.is_mac; told = sym r.0; over = r.1 })
   tail_line l more (s ∷ ss) m lacks h =
       let (a, b, parts, here, rest) = h.texts in
       let p = stanza_parts legacy a s here in
       let tail : List ℕ = b ++ line (mac_line m) in
-      let e : line l ++ more ≡ line (first_line s) ++ (p.0 ++ tail) = h.spelled ∙ ap (λ x. x ++ line (mac_line m)) (parts ∙ ap (λ x. x ++ b) p.1) ∙ simp append_assoc in
+      let e : line l ++ more ≡ line (first_line s) ++ (p.0 ++ tail) =
+      h.spelled ∙ ap (λ x. x ++ line (mac_line m)) (parts ∙ ap (λ x. x ++ b) p.1) ∙ simp append_assoc in
       let r = split_line l (first_line s) more (p.0 ++ tail) lacks (first_line_lacks s here.stanza) e in
       inr (record {
         here = s;
@@ -126,15 +129,19 @@ module _ (legacy : Bool) where
 
   -- a line after which no header goes on, past the version's line
   pub bad_line : (text rest l : List ℕ) → text ≡ line version_line ++ rest
-      → ((more : List ℕ) (ss : List StanzaValue) (m : List ℕ) → IsHeaderText legacy (text ++ (line l ++ more)) ss m → ⊥) → EndsInBadLine legacy (text ++ line l)
+      → ((more : List ℕ) (ss : List StanzaValue) (m : List ℕ) → IsHeaderText legacy (text ++ (line l ++ more)) ss m → ⊥)
+      → EndsInBadLine legacy (text ++ line l)
   bad_line text rest l e none = record {
     finished = (text ++ l, sym (append_assoc text l (10 ∷ [])));
     hopeless = λ more ss m h. none more ss m (subst (λ x. IsHeaderText legacy x ss m) (regroup text l more) h);
     known = λ u.
         (let f : line version_line ++ (rest ++ line l) ≡ line (magic ++ u.version) ++ [] =
-        sym (append_assoc (line version_line) rest (line l)) ∙ ap (λ x. x ++ line l) (sym e) ∙ u.spelled ∙ sym (append-nil (line (magic ++ u.version))) in
-        let lacks : Lacks 10 (magic ++ u.version) = Lacks-append 10 magic u.version (lacks_tested 10 magic refl) (Lacks_string 10 (omega arith) u.version u.string.1) in
-        let same : version_line ≡ magic ++ u.version = (split_line version_line (magic ++ u.version) (rest ++ line l) [] version_line_lacks lacks f).0 in
+        sym (append_assoc (line version_line) rest (line l)) ∙ ap (λ x. x ++ line l) (sym e) ∙ u.spelled
+        ∙ sym (append-nil (line (magic ++ u.version))) in
+        let lacks : Lacks 10 (magic ++ u.version) =
+        Lacks-append 10 magic u.version (lacks_tested 10 magic refl) (Lacks_string 10 (omega arith) u.version u.string.1) in
+        let same : version_line ≡ magic ++ u.version =
+        (split_line version_line (magic ++ u.version) (rest ++ line l) [] version_line_lacks lacks f).0 in
         u.other (sym (append_cancel_left magic (codes "v1") u.version same)));
   }
 
@@ -144,7 +151,15 @@ module _ (legacy : Bool) where
   cases_body zero s l more x b after done ss others m lacks (small, inl t) tail e hs list =
       let each : AreBytes b = back_bytes s.body b hs.body in
       let r = split_line l (columns b) more after lacks (lacks_feed b each) (e ∙ ap (λ y. y ++ after) t) in
-      inl (record { bytes = b; others = others; each = each; small = small; told = sym r.0; list = list; tail = subst (λ y. IsTail legacy y others m) (sym r.1) tail })
+      inl (record {
+        bytes = b;
+        others = others;
+        each = each;
+        small = small;
+        told = sym r.0;
+        list = list;
+        tail = subst (λ y. IsTail legacy y others m) (sym r.1) tail;
+      })
   cases_body zero s l more x b after done ss others m lacks (small, inr t) tail e hs list =
       inr (inr (record {
         allowed = t.0;
@@ -176,12 +191,15 @@ module _ (legacy : Bool) where
         };
       }))
 
-  pub body_cases : (s : StanzaValue) (l more : List ℕ) (done ss : List StanzaValue) (m : List ℕ) → Lacks 10 l → IsBodyAndTail legacy s (line l ++ more) done ss m
+  pub body_cases : (s : StanzaValue) (l more : List ℕ) (done ss : List StanzaValue) (m : List ℕ) → Lacks 10 l
+      → IsBodyAndTail legacy s (line l ++ more) done ss m
       → IsFinal legacy s l more done ss m ⊎ IsWhole legacy s l more done ss m ⊎ IsOver legacy s (line l ++ more) done ss m
-  body_cases s l more done ss m lacks h = cases_body h.count s l more h.text h.rest h.after done ss h.others m lacks h.lines h.tail h.whole h.stanza h.told
+  body_cases s l more done ss m lacks h = cases_body h.count s l more h.text h.rest h.after done ss h.others m lacks h.lines h.tail h.whole
+      h.stanza h.told
 
   -- a line with a hyphen is no line of a body
-  pub hyphen_over : (s : StanzaValue) (l more rest : List ℕ) (done ss : List StanzaValue) (m : List ℕ) → Lacks 10 l → l ≡ 45 ∷ rest → IsBodyAndTail legacy s (line l ++ more) done ss m
+  pub hyphen_over : (s : StanzaValue) (l more rest : List ℕ) (done ss : List StanzaValue) (m : List ℕ) → Lacks 10 l → l ≡ 45 ∷ rest
+      → IsBodyAndTail legacy s (line l ++ more) done ss m
       → IsOver legacy s (line l ++ more) done ss m
   hyphen_over s l more rest done ss m lacks hyphen h = elim (body_cases s l more done ss m lacks h) [
     | inl final ↦ absurd (columns_start (columns final.bytes) (columns_symbols final.bytes final.each) rest (final.told ∙ hyphen))
@@ -190,7 +208,8 @@ module _ (legacy : Bool) where
   ]
 
   -- and one that is no end of a body is
-  pub other_body : (s : StanzaValue) (l more : List ℕ) (done ss : List StanzaValue) (m : List ℕ) → Lacks 10 l → (legacy ≡ true → (rest : List ℕ) → l ≡ 45 ∷ rest → ⊥) → IsBodyAndTail legacy s (line l ++ more) done ss m
+  pub other_body : (s : StanzaValue) (l more : List ℕ) (done ss : List StanzaValue) (m : List ℕ) → Lacks 10 l
+      → (legacy ≡ true → (rest : List ℕ) → l ≡ 45 ∷ rest → ⊥) → IsBodyAndTail legacy s (line l ++ more) done ss m
       → IsFinal legacy s l more done ss m ⊎ IsWhole legacy s l more done ss m
   unfolding first_line mac_line
   other_body s l more done ss m lacks none h = elim (body_cases s l more done ss m lacks h) [

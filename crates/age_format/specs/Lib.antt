@@ -6,5 +6,6 @@ pub mod OldHeader
 pub mod Wrapping
 pub mod Unwrapping
 pub mod Boxed
+pub mod BoxedLemmas
 pub mod PrivateReading
 pub mod PrivateSteps

@@ -12,7 +12,8 @@ use Rattle.age_format.specs.Reading.{IsAt, MakesHeader, WasRead}
 -- the same, before the line next
 pub record StandsBeforeLine (legacy : Bool) (state : State) (next text : List ℕ) : Type 0 where
   pub read : WasRead legacy state text
-  pub goes : (more : List ℕ) (stanzas : List StanzaValue) (mac : List ℕ) → IsHeaderText legacy (text ++ (line next ++ more)) stanzas mac → MakesHeader legacy state (line next ++ more) stanzas mac
+  pub goes : (more : List ℕ) (stanzas : List StanzaValue) (mac : List ℕ) → IsHeaderText legacy (text ++ (line next ++ more)) stanzas mac
+      → MakesHeader legacy state (line next ++ more) stanzas mac
 
 -- what the text says that ends with the judged line
 abbrev pub IsJudged : Bool → Judged → List ℕ → Type 0

@@ -48,9 +48,11 @@ abbrev pub WasRead : Bool → State → List ℕ → Type 0
 WasRead legacy Version text = text ≡ []
 WasRead legacy FirstStanza text = text ≡ line version_line
 WasRead legacy (Body done s) text = IsInBody legacy s text done.items
-WasRead legacy (AfterBody done) text = (middle : List ℕ) × (done.items ≢ []) × AreStanzaTexts legacy middle done.items × (text ≡ line version_line ++ middle)
+WasRead legacy (AfterBody done) text = (middle : List ℕ) × (done.items ≢ []) × AreStanzaTexts legacy middle done.items
+    × (text ≡ line version_line ++ middle)
 
 -- after the text the reader is in this state
 pub record IsAt (legacy : Bool) (state : State) (text : List ℕ) : Type 0 where
   pub read : WasRead legacy state text
-  pub goes : (more : List ℕ) (stanzas : List StanzaValue) (mac : List ℕ) → IsHeaderText legacy (text ++ more) stanzas mac → MakesHeader legacy state more stanzas mac
+  pub goes : (more : List ℕ) (stanzas : List StanzaValue) (mac : List ℕ) → IsHeaderText legacy (text ++ more) stanzas mac
+      → MakesHeader legacy state more stanzas mac

@@ -52,7 +52,8 @@ RefusesHeader legacy old_faults new_faults old new old_place new_place InvalidHe
     (front : List ℕ) × TookVerdict legacy old new old_place new_place front Bad
 RefusesHeader legacy old_faults new_faults old new old_place new_place UnknownFormat =
     (front : List ℕ) × TookVerdict legacy old new old_place new_place front UnknownVersion
-RefusesHeader legacy old_faults new_faults old new old_place new_place (Io e) = HeaderBreaksOff legacy old_faults new_faults old new old_place new_place e
+RefusesHeader legacy old_faults new_faults old new old_place new_place (Io e) =
+    HeaderBreaksOff legacy old_faults new_faults old new old_place new_place e
 RefusesHeader legacy old_faults new_faults old new old_place new_place OutOfMemory = RunsOut legacy old new old_place new_place
 RefusesHeader legacy old_faults new_faults old new old_place new_place _ = ⊥
 

@@ -1,5 +1,5 @@
 //! Those who get file keys back from stanzas.
-ghost use Rattle.std.specs.Prelude.{ℕ, List, [], ◌∷◌};
+ghost use Rattle.std.specs.Prelude.{List, [], ◌∷◌};
 ghost use Rattle.age_v1.specs.Stanza.{StanzaValue};
 ghost use Rattle.age_format.specs.Unwrapping.{unwrap_answer};
 ghost use Rattle.age_v1.specs.Identities.{UnwrapAnswer, Unwraps};
@@ -56,7 +56,8 @@ fn unwrap_stanza_in_box(
     identity: &mut Box<dyn Identity>,
     stanza: &Stanza,
 ) -> Option<Result<FileKey, DecryptError>>
-    ensures { Changes identity.old (λ before after. Unwraps (Identity-box identity.old).unwraps before (stanza.now ∷ []) (unwrap_answer result) after) identity.new }
+    ensures { Changes identity.old (λ before after. Unwraps (Identity-box identity.old).unwraps before (stanza.now ∷ [])
+        (unwrap_answer result) after) identity.new }
 {
     (**identity).unwrap_stanza(alloc, stanza)
 }
@@ -67,14 +68,16 @@ fn unwrap_stanzas_in_box(
     identity: &mut Box<dyn Identity>,
     stanzas: &[Stanza],
 ) -> Option<Result<FileKey, DecryptError>>
-    ensures { Changes identity.old (λ before after. Unwraps (Identity-box identity.old).unwraps before stanzas.now (unwrap_answer result) after) identity.new }
+    ensures { Changes identity.old (λ before after. Unwraps (Identity-box identity.old).unwraps before stanzas.now (unwrap_answer result) after)
+        identity.new }
 {
     (**identity).unwrap_stanzas(alloc, stanzas)
 }
 
 // What a boxed identity does is what the identity in the box does.
 impl Identity for Box<dyn Identity> {
-    ghost unwraps = { λ identity stanzas answer after. Changes identity (λ before after. Unwraps (Identity-box identity).unwraps before stanzas answer after) after };
+    ghost unwraps = { λ identity stanzas answer after. Changes identity
+        (λ before after. Unwraps (Identity-box identity).unwraps before stanzas answer after) after };
 
     fn unwrap_stanza(
         &mut self,

@@ -1,11 +1,9 @@
 //! The parts of a header's lines.
 
-ghost use Rattle.std.specs.Prelude.{◌≡◌, ◌≢◌, ◌++◌, ◌∷◌, [], ◌≤◌, ◌<◌, ◌==◌, ◌↔◌, ℕ, List, length, map, IfOk, MatchOption, IsTrue, string_bytes, codes};
+ghost use Rattle.std.specs.Prelude.{◌≡◌, ◌≢◌, ◌++◌, [], ◌<◌, ◌==◌, ℕ, List, map, IfOk, MatchOption, string_bytes};
 ghost use Rattle.std.specs.List.{AllByRecursion, join_with_byte, slice_split};
-ghost use Rattle.age_error.specs.Bytes.{AreBytes, AreBytesOf};
-ghost use Rattle.age_base64.specs.Lines.{line};
+ghost use Rattle.age_error.specs.Bytes.{AreBytesOf};
 ghost use Rattle.age_v1.specs.Stanza.{IsString, StanzaValue, IsStanza, first_line};
-ghost use Rattle.age_base64.specs.Base64.{columns};
 ghost use Rattle.age_v1.specs.Header.{mac_line};
 
 use crate::stanza::{Stanza, is_string};

@@ -80,6 +80,7 @@ pub(crate) fn write_covered<T: Sink>(stanzas: &[Stanza], out: &mut T) -> Result<
 {
     out.take(b"age-encryption.org/v1\n")?;
     for stanza in stanzas {
+        // For the proof alone: what the type keeps of it.
         stanza.known();
         stanza.write(out)?;
     }

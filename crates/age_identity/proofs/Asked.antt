@@ -15,7 +15,8 @@ module _ {S : Type 0} (asks : List ℕ → StanzaValue → UnwrapAnswer → Type
 
   -- where the first one answers, that is the answer
   pub first_answers : (entries tail : List (IdentityFileEntry S)) (first : IdentityFileEntry S) (own : Result (List ℕ) DecryptRefusal)
-      → entries ≡ first ∷ tail → EntryAnswers asks stanzas (entry_of first) (Some own) → EntriesAnswer asks (map (λ e. entry_of e) entries) stanzas (Some own)
+      → entries ≡ first ∷ tail → EntryAnswers asks stanzas (entry_of first) (Some own)
+      → EntriesAnswer asks (map (λ e. entry_of e) entries) stanzas (Some own)
   first_answers entries tail first own is h = rw is (Some own, stanzas, (h, refl), (refl, refl))
 
   -- where it doesn't, the others decide

@@ -14,7 +14,8 @@ pub rest_utf8 : (front rest : List ℕ) → IsUtf8 front → IsUtf8 (front ++ re
 rest_utf8 front rest first whole =
     let start : IsUtf8 (take (length front) (front ++ rest)) = subst IsUtf8 (sym (take-append_seam front rest)) first in
     let within : length front ≤ length (front ++ rest) = omega (arith, length-append front rest) in
-    subst IsUtf8 (drop-append_seam front rest) (IsUtf8-drop (front ++ rest) (length front) whole (IsCharBoundary-from_take (front ++ rest) (length front) whole within start))
+    subst IsUtf8 (drop-append_seam front rest)
+    (IsUtf8-drop (front ++ rest) (length front) whole (IsCharBoundary-from_take (front ++ rest) (length front) whole within start))
 
 first_char : (c : ℕ) (cs pending more : List ℕ) → 4 ≤ length pending → ((k : ℕ) → 0 < k → k ≤ 4 → IsUtf8 (take k pending) → ⊥)
     → all_scalars (c ∷ cs) ≡ true → encode_utf8_all (c ∷ cs) ≡ pending ++ more → ⊥
@@ -38,21 +39,11 @@ no_char pending more long none (c ∷ cs, text) = first_char c cs pending more l
 -- ---- the check
 
 module _ (pending : List ℕ) (count byte : ℕ) (text : List ℕ) where
-  -- four bytes are pending, and what comes isn't kept
-  pub checked_lost : count ≡ 4 → HasChecked pending count text → HasChecked pending count (text ++ byte ∷ [])
-  checked_lost full h = record {
-    front = h.front;
-    more = h.more ++ byte ∷ [];
-    parts = ap (λ t. t ++ byte ∷ []) h.parts ∙ append_assoc h.front (take count pending ++ h.more) (byte ∷ [])
-        ∙ ap (λ t. h.front ++ t) (append_assoc (take count pending) h.more (byte ∷ []));
-    good = h.good;
-    all = λ few. absurd (omega (arith, few, full));
-    none = h.none;
-  }
-
-  grown : length pending ≡ 4 → count < 4 → (h : HasChecked pending count text) → text ++ byte ∷ [] ≡ h.front ++ take (count + 1) (slice_set pending count byte)
+  grown : length pending ≡ 4 → count < 4 → (h : HasChecked pending count text)
+      → text ++ byte ∷ [] ≡ h.front ++ take (count + 1) (slice_set pending count byte)
   grown size few h =
-      ap (λ t. t ++ byte ∷ []) (h.parts ∙ ap (λ m. h.front ++ (take count pending ++ m)) (h.all few) ∙ ap (λ p. h.front ++ p) (append-nil (take count pending)))
+      ap (λ t. t ++ byte ∷ []) (h.parts ∙ ap (λ m. h.front ++ (take count pending ++ m)) (h.all few)
+      ∙ ap (λ p. h.front ++ p) (append-nil (take count pending)))
       ∙ append_assoc h.front (take count pending) (byte ∷ [])
       ∙ ap (λ p. h.front ++ p) (sym (take_more_set pending count byte (omega (arith, size, few))))
 
@@ -89,20 +80,16 @@ module _ (pending : List ℕ) (count byte : ℕ) (text : List ℕ) where
   }
 
 -- where some are pending the text isn't UTF-8
-pub pending_bad : (pending : List ℕ) (count : ℕ) (text : List ℕ) → length pending ≡ 4 → count ≤ 4 → 0 < count → HasChecked pending count text → IsUtf8 text → ⊥
+pub pending_bad : (pending : List ℕ) (count : ℕ) (text : List ℕ) → length pending ≡ 4 → count ≤ 4 → 0 < count → HasChecked pending count text
+    → IsUtf8 text → ⊥
 pending_bad pending count text size most some h is =
     let rest : IsUtf8 (take count pending ++ h.more) = rest_utf8 h.front (take count pending ++ h.more) h.good (subst IsUtf8 h.parts is) in
     elim (cases_lt count 4) [
-      | inl few ↦ h.none count some (omega arith) (subst IsUtf8 (ap (λ m. take count pending ++ m) (h.all few) ∙ append-nil (take count pending)) rest)
+      | inl few ↦ h.none count some (omega arith)
+          (subst IsUtf8 (ap (λ m. take count pending ++ m) (h.all few) ∙ append-nil (take count pending)) rest)
       | inr full ↦
           let four : count ≡ 4 = omega arith in
           let all : take count pending ≡ pending = take_all count pending (omega (arith, size)) in
-          no_char pending h.more (omega (arith, size)) (λ k one within. h.none k one (omega (arith, within))) (subst (λ p. IsUtf8 (p ++ h.more)) all rest)
+          no_char pending h.more (omega (arith, size)) (λ k one within. h.none k one (omega (arith, within)))
+          (subst (λ p. IsUtf8 (p ++ h.more)) all rest)
     ]
-
--- where none are, it is
-pub none_pending : (pending : List ℕ) (count : ℕ) (text : List ℕ) → count ≡ 0 → HasChecked pending count text → IsUtf8 text
-none_pending pending count text none h =
-    let all : text ≡ h.front =
-    h.parts ∙ ap (λ m. h.front ++ (take count pending ++ m)) (h.all (omega (arith, none))) ∙ ap (λ n. h.front ++ (take n pending ++ [])) none ∙ append-nil h.front in
-    subst IsUtf8 (sym all) h.good

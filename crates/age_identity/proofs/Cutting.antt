@@ -44,9 +44,11 @@ split_at (x ∷ xs) ys =
 
 -- ---- lines
 
-parts_before : (parts more : List (List ℕ)) → 0 < length more → lines_of_parts (parts ++ more) ≡ map strip_carriage_return parts ++ lines_of_parts more
+parts_before : (parts more : List (List ℕ)) → 0 < length more
+    → lines_of_parts (parts ++ more) ≡ map strip_carriage_return parts ++ lines_of_parts more
 parts_before [] more some = refl
-parts_before (x ∷ parts) more some = one_before x (parts ++ more) (omega (arith, length-append parts more, some)) ∙ ap (λ ls. strip_carriage_return x ∷ ls) (parts_before parts more some)
+parts_before (x ∷ parts) more some = one_before x (parts ++ more) (omega (arith, length-append parts more, some))
+    ∙ ap (λ ls. strip_carriage_return x ∷ ls) (parts_before parts more some)
   where
     one_before : (x : List ℕ) (parts : List (List ℕ)) → 0 < length parts → lines_of_parts (x ∷ parts) ≡ strip_carriage_return x ∷ lines_of_parts parts
     one_before x [] some = absurd (omega (arith, some))
@@ -64,7 +66,8 @@ lines_more done more (inr ended) =
     let here = lines_at before more in
     let alone : lines (before ++ 10 ∷ []) ≡ map strip_carriage_return (slice_split (λ b. b == 10) before) =
     lines_at before [] ∙ append-nil (map strip_carriage_return (slice_split (λ b. b == 10) before)) in
-    ap (λ d. lines (d ++ more)) is ∙ ap lines (append_assoc before (10 ∷ []) more) ∙ here ∙ ap (λ ls. ls ++ lines more) (sym alone ∙ ap lines (sym is))
+    ap (λ d. lines (d ++ more)) is ∙ ap lines (append_assoc before (10 ∷ []) more) ∙ here
+    ∙ ap (λ ls. ls ++ lines more) (sym alone ∙ ap lines (sym is))
 
 no_lf : (last : List ℕ) → Lacks 10 last → All (λ b. (b == 10) ≡ false) last
 no_lf [] lacks = All-nil (λ b. (b == 10) ≡ false)

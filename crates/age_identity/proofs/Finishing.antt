@@ -45,7 +45,8 @@ good_so_far p text h = record { done = h.done; last = h.last; parts = h.parts; e
 module _ {R S : Type 0} (read : Ghosts R) (start reader new : LimitedReader R) (parser : Parser S) (h : HasRead read start reader parser) where
   -- some bytes more
   pub read_more : (next : Parser S) (buf : List ℕ) (n : ℕ) → is_past new ≡ false → left_of new + n ≡ left_of reader →
-      ReadsWithin read (TriedAgain read.refuses) (inner_of reader) (inner_of new) buf (Ok n) → IsAt next (h.text ++ take n buf) → HasRead read start new next
+      ReadsWithin read (TriedAgain read.refuses) (inner_of reader) (inner_of new) buf (Ok n) → IsAt next (h.text ++ take n buf)
+      → HasRead read start new next
   read_more next buf n within counts given here =
       let r = given.reads in
       let size : length (take n buf) ≡ n = ap length given.same ∙ length-take-le n given.part r.count in
@@ -55,27 +56,31 @@ module _ {R S : Type 0} (read : Ghosts R) (start reader new : LimitedReader R) (
         narrows = λ e x. h.narrows e (r.narrows e x);
         within = within;
         text = h.text ++ take n buf;
-        counted = let c : length (h.text ++ take n buf) + left_of new ≡ left_of start = omega (arith, h.counted, counts, size, length-append h.text (take n buf)) in c;
+        counted = let c : length (h.text ++ take n buf) + left_of new ≡ left_of start =
+            omega (arith, h.counted, counts, size, length-append h.text (take n buf)) in c;
         here = here;
         so_far = λ told. Delivers-joined h.text (take n buf) _ _ _ (h.so_far told)
             (subst (λ b. Delivers b (read.rest (inner_of reader)) (read.rest (inner_of new))) (sym given.same) (r.bytes (h.tells ∙ told)));
       }
 
   -- a byte stands past the limit
-  past_limit : (e : Error) → Meets read reader new (Err e) → IsTrue (read.tells (inner_of start)) → IsTooLong (left_of start) (read.rest (inner_of start))
+  past_limit : (e : Error) → Meets read reader new (Err e) → IsTrue (read.tells (inner_of start))
+      → IsTooLong (left_of start) (read.rest (inner_of start))
   past_limit e met told =
       let d = h.so_far told in
       let all : length h.text ≡ left_of start = omega (arith, h.counted, met.limit) in
       let size = ap length d.bytes ∙ length-append h.text (read.rest (inner_of reader)).bytes in
       let same : take (left_of start) (read.rest (inner_of start)).bytes ≡ h.text =
-      ap (take (left_of start)) d.bytes ∙ ap (λ n. take n (h.text ++ (read.rest (inner_of reader)).bytes)) (sym all) ∙ take-append_seam h.text (read.rest (inner_of reader)).bytes in
+      ap (take (left_of start)) d.bytes ∙ ap (λ n. take n (h.text ++ (read.rest (inner_of reader)).bytes)) (sym all)
+      ∙ take-append_seam h.text (read.rest (inner_of reader)).bytes in
       record {
         long = let l : left_of start < length (read.rest (inner_of start)).bytes = omega (arith, size, all, met.byte (h.tells ∙ told)) in l;
         good = subst HasGoodLines (sym same) (good_so_far parser h.text h.here);
       }
 
   -- the reader broke off
-  breaks : (e : Error) → (e ≢ OutOfMemory → IsQuiet (read.faults (inner_of reader)) (read.faults (inner_of new)) → IsFault (read.rest (inner_of reader)))
+  breaks : (e : Error) → (e ≢ OutOfMemory → IsQuiet (read.faults (inner_of reader)) (read.faults (inner_of new))
+      → IsFault (read.rest (inner_of reader)))
       → read.faults (inner_of reader) ≤ read.faults (inner_of new) → IsTrue (read.tells (inner_of start))
       → FileBreaksOff (left_of start) (read.faults (inner_of start)) (read.faults (inner_of new)) (read.rest (inner_of start)) e
   breaks e cause rose told =
@@ -129,7 +134,8 @@ module _ {R S : Type 0} (read : Ghosts R) (start reader new : LimitedReader R) (
 
   -- a line was bad, or memory was refused
   refused_line : {A : Type 0} (entries : A → List Entry) (buf front more : List ℕ) (n : ℕ) (e : Error) → left_of new + n ≡ left_of reader →
-      ReadsWithin read (TriedAgain read.refuses) (inner_of reader) (inner_of new) buf (Ok n) → take n buf ≡ front ++ more → RefusesLine e (h.text ++ front) →
+      ReadsWithin read (TriedAgain read.refuses) (inner_of reader) (inner_of new) buf (Ok n) → take n buf ≡ front ++ more
+      → RefusesLine e (h.text ++ front) →
       IsTrue (read.tells (inner_of start)) → (number : ℕ) → IsEnded (h.text ++ front) → EndsInBad (h.text ++ front) number →
       IsFirstBad (limited (left_of start) (read.rest (inner_of start))) number
   refused_line entries buf front more n e counts given cut refused told number ended bad =
@@ -138,7 +144,8 @@ module _ {R S : Type 0} (read : Ghosts R) (start reader new : LimitedReader R) (
       let d = h.so_far told in
       let next = r.bytes (h.tells ∙ told) in
       let all : (read.rest (inner_of start)).bytes ≡ (h.text ++ front) ++ (more ++ (read.rest (inner_of new)).bytes) =
-      d.bytes ∙ ap (λ b. h.text ++ b) (next.bytes ∙ ap (λ b. b ++ (read.rest (inner_of new)).bytes) (sym given.same ∙ cut) ∙ append_assoc front more (read.rest (inner_of new)).bytes)
+      d.bytes ∙ ap (λ b. h.text ++ b) (next.bytes ∙ ap (λ b. b ++ (read.rest (inner_of new)).bytes) (sym given.same ∙ cut)
+      ∙ append_assoc front more (read.rest (inner_of new)).bytes)
       ∙ sym (append_assoc h.text front (more ++ (read.rest (inner_of new)).bytes)) in
       let fits : length (h.text ++ front) ≤ left_of start =
       omega (arith, h.counted, counts, size, length-append h.text front, ap length cut, length-append front more) in
@@ -151,7 +158,8 @@ module _ {R S : Type 0} (read : Ghosts R) (start reader new : LimitedReader R) (
       }
 
   pub read_bad : {A : Type 0} (entries : A → List Entry) (buf front more : List ℕ) (n : ℕ) (e : Error) → left_of new + n ≡ left_of reader →
-      ReadsWithin read (TriedAgain read.refuses) (inner_of reader) (inner_of new) buf (Ok n) → take n buf ≡ front ++ more → RefusesLine e (h.text ++ front) →
+      ReadsWithin read (TriedAgain read.refuses) (inner_of reader) (inner_of new) buf (Ok n) → take n buf ≡ front ++ more
+      → RefusesLine e (h.text ++ front) →
       ReadsEntries read (left_of start) entries (inner_of start) (inner_of new) (Err e)
   read_bad entries buf front more n e counts given cut (inl memory) =
       record {
@@ -173,7 +181,8 @@ module _ {R S : Type 0} (read : Ghosts R) (start reader new : LimitedReader R) (
       }
 
   -- the end came
-  whole_text : (buf : List ℕ) (n : ℕ) → n ≡ 0 → ReadsWithin read (TriedAgain read.refuses) (inner_of reader) (inner_of new) buf (Ok n) → IsTrue (read.tells (inner_of start)) →
+  whole_text : (buf : List ℕ) (n : ℕ) → n ≡ 0 → ReadsWithin read (TriedAgain read.refuses) (inner_of reader) (inner_of new) buf (Ok n)
+      → IsTrue (read.tells (inner_of start)) →
       ((read.rest (inner_of start)).bytes ≡ h.text) × IsTrue (read.rest (inner_of start)).ends_well
   whole_text buf n none given told =
       let d = h.so_far told in
@@ -187,7 +196,8 @@ module _ {R S : Type 0} (read : Ghosts R) (start reader new : LimitedReader R) (
     faults = let f : read.faults (inner_of start) ≤ read.faults (inner_of new) = omega (arith, h.faults, given.reads.no_fewer_faults) in f;
     device = tt;
     patient = tt;
-    fits = λ told. let f : length (read.rest (inner_of start)).bytes ≤ left_of start = omega (arith, h.counted, ap length (whole_text buf n none given told).0) in f;
+    fits = λ told. let f : length (read.rest (inner_of start)).bytes ≤ left_of start =
+        omega (arith, h.counted, ap length (whole_text buf n none given told).0) in f;
     file = λ told. record {
       well = (whole_text buf n none given told).1;
       good = subst (λ t. AreEntries (lines t) (entries x)) (sym (whole_text buf n none given told).0) good;
@@ -195,7 +205,8 @@ module _ {R S : Type 0} (read : Ghosts R) (start reader new : LimitedReader R) (
     refused = tt;
   }
 
-  last_bad : (buf : List ℕ) (n : ℕ) → n ≡ 0 → ReadsWithin read (TriedAgain read.refuses) (inner_of reader) (inner_of new) buf (Ok n) → IsTrue (read.tells (inner_of start)) →
+  last_bad : (buf : List ℕ) (n : ℕ) → n ≡ 0 → ReadsWithin read (TriedAgain read.refuses) (inner_of reader) (inner_of new) buf (Ok n)
+      → IsTrue (read.tells (inner_of start)) →
       (number : ℕ) → EndsInBad h.text number → IsFirstBad (limited (left_of start) (read.rest (inner_of start))) number
   last_bad buf n none given told number bad =
       let whole = whole_text buf n none given told in
@@ -204,7 +215,11 @@ module _ {R S : Type 0} (read : Ghosts R) (start reader new : LimitedReader R) (
         front = h.text;
         more = [];
         whole = take_all (left_of start) (read.rest (inner_of start)).bytes fits ∙ whole.0 ∙ sym (append-nil h.text);
-        finished = inr (refl, ap (λ b. b && nat_le (length (read.rest (inner_of start)).bytes) (left_of start)) whole.1 ∙ le-leb (length (read.rest (inner_of start)).bytes) (left_of start) fits);
+        finished = inr (
+          refl,
+          ap (λ b. b && nat_le (length (read.rest (inner_of start)).bytes) (left_of start)) whole.1
+              ∙ le-leb (length (read.rest (inner_of start)).bytes) (left_of start) fits,
+        );
         ends = bad;
       }
 
@@ -238,7 +253,8 @@ module _ {R S : Type 0} (read : Ghosts R) (start reader new : LimitedReader R) (
   read_ended entries buf n (Err e) none given bad = read_last entries buf n e none given bad
 
 -- the same read, told of another reader and limit that are the same
-told_of : {R A : Type 0} (read : Ghosts R) (limit other : ℕ) (entries : A → List Entry) (input same last : R) (result : Result A Error) → limit ≡ other → input ≡ same →
+told_of : {R A : Type 0} (read : Ghosts R) (limit other : ℕ) (entries : A → List Entry) (input same last : R) (result : Result A Error)
+    → limit ≡ other → input ≡ same →
     ReadsEntries read limit entries input last result → ReadsEntries read other entries same last result
 told_of read limit other entries input same last result is input_is r =
     subst (λ n. ReadsEntries read n entries same last result) is (subst (λ i. ReadsEntries read limit entries i last result) input_is r)
@@ -248,15 +264,18 @@ unfolding most_file_bytes
 limit_is = refl
 
 -- a refusal of the entries is one of the file
-pub refused_file : {R A B : Type 0} (read : Ghosts R) (limit : ℕ) (entries : A → List Entry) (others : B → List Entry) (input same last : R) (e : Error) →
+pub refused_file : {R A B : Type 0} (read : Ghosts R) (limit : ℕ) (entries : A → List Entry) (others : B → List Entry) (input same last : R)
+    (e : Error) →
     limit ≡ 16777216 → input ≡ same → ReadsEntries read limit entries input last (Err e) → ReadsEntries read most_file_bytes others same last (Err e)
 refused_file read limit entries others input same last e is input_is r =
     let t = told_of read limit most_file_bytes entries input same last (Err e) (is ∙ limit_is) input_is r in
     record { faults = t.faults; device = t.device; patient = t.patient; fits = λ told. tt; file = λ told. tt; refused = t.refused }
 
 -- and so are the entries those of the file
-pub read_of_file : {R A B : Type 0} (read : Ghosts R) (limit : ℕ) (entries : A → List Entry) (others : B → List Entry) (input same last : R) (x : A) (y : B) →
-    limit ≡ 16777216 → input ≡ same → entries x ≡ others y → ReadsEntries read limit entries input last (Ok x) → ReadsEntries read most_file_bytes others same last (Ok y)
+pub read_of_file : {R A B : Type 0} (read : Ghosts R) (limit : ℕ) (entries : A → List Entry) (others : B → List Entry) (input same last : R)
+    (x : A) (y : B) →
+    limit ≡ 16777216 → input ≡ same → entries x ≡ others y → ReadsEntries read limit entries input last (Ok x)
+    → ReadsEntries read most_file_bytes others same last (Ok y)
 read_of_file read limit entries others input same last x y is input_is entries_are r =
     let t = told_of read limit most_file_bytes entries input same last (Ok x) (is ∙ limit_is) input_is r in
     record {

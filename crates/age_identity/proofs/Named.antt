@@ -93,11 +93,13 @@ least_one n names later none is = record {
   least = subst (AllByRecursion (IsAtMost n)) (sym (is ∙ ap (λ ns. ns ++ n ∷ []) none)) (itself n, tt);
 }
 
-pub least_more : (r m n : List ℕ) (names later : List (List ℕ)) → IsLeast m names → later ≡ names ++ n ∷ [] → IsAtMost r m → IsAtMost r n → (r ≡ m) ⊎ (r ≡ n) → IsLeast r later
+pub least_more : (r m n : List ℕ) (names later : List (List ℕ)) → IsLeast m names → later ≡ names ++ n ∷ [] → IsAtMost r m → IsAtMost r n
+    → (r ≡ m) ⊎ (r ≡ n) → IsLeast r later
 least_more r m n names later least is first second (inl same) = record {
   before = least.before;
   others = least.others ++ n ∷ [];
-  one = is ∙ ap (λ ns. ns ++ n ∷ []) least.one ∙ append_assoc least.before (m ∷ least.others) (n ∷ []) ∙ ap (λ x. least.before ++ x ∷ (least.others ++ n ∷ [])) (sym same);
+  one = is ∙ ap (λ ns. ns ++ n ∷ []) least.one ∙ append_assoc least.before (m ∷ least.others) (n ∷ [])
+      ∙ ap (λ x. least.before ++ x ∷ (least.others ++ n ∷ [])) (sym same);
   least = subst (AllByRecursion (IsAtMost r)) (sym is) (all_more r n names (below_all r m names first least.least) second);
 }
 least_more r m n names later least is first second (inr same) = record {
@@ -109,21 +111,17 @@ least_more r m n names later least is first second (inr same) = record {
 
 -- ---- one entry more
 
-module _ {S : Type 0} (entries : List (IdentityFileEntry S)) (i : ℕ) (e : IdentityFileEntry S) (within : i < length entries) (there : e ≡ get_or entries i e) where
+module _ {S : Type 0} (entries : List (IdentityFileEntry S)) (i : ℕ) (e : IdentityFileEntry S) (within : i < length entries)
+    (there : e ≡ get_or entries i e) where
   pub seen : map (λ x. entry_of x) (take (i + 1) entries) ≡ map (λ x. entry_of x) (take i entries) ++ entry_of e ∷ []
-  seen = ap (map (λ x. entry_of x)) (take_more entries i e within ∙ ap (λ x. take i entries ++ x ∷ []) (sym there)) ∙ map-append (λ x. entry_of x) (take i entries) (e ∷ [])
+  seen = ap (map (λ x. entry_of x)) (take_more entries i e within ∙ ap (λ x. take i entries ++ x ∷ []) (sym there))
+      ∙ map-append (λ x. entry_of x) (take i entries) (e ∷ [])
 
   all_seen : map (λ x. entry_of x) entries ≡ map (λ x. entry_of x) (take i entries) ++ (entry_of e ∷ map (λ x. entry_of x) (drop (i + 1) entries))
   all_seen =
       ap (map (λ x. entry_of x)) (sym (take-append-drop (i + 1) entries)) ∙ map-append (λ x. entry_of x) (take (i + 1) entries) (drop (i + 1) entries)
       ∙ ap (λ es. es ++ map (λ x. entry_of x) (drop (i + 1) entries)) seen
       ∙ append_assoc (map (λ x. entry_of x) (take i entries)) (entry_of e ∷ []) (map (λ x. entry_of x) (drop (i + 1) entries))
-
-  -- a plugin's
-  pub plugin_seen : (key : PluginKey) → entry_of e ≡ Plugin key →
-      plugin_names (map (λ x. entry_of x) (take (i + 1) entries)) ≡ plugin_names (map (λ x. entry_of x) (take i entries)) ++ key.name ∷ []
-  plugin_seen key is =
-      ap plugin_names (seen ∙ ap (λ x. map (λ x. entry_of x) (take i entries) ++ x ∷ []) is) ∙ names-append (map (λ x. entry_of x) (take i entries)) (Plugin key ∷ [])
 
   pub plugin_first : (key : PluginKey) → entry_of e ≡ Plugin key → plugin_names (map (λ x. entry_of x) (take i entries)) ≡ [] →
       plugin_names (map (λ x. entry_of x) entries) ≡ key.name ∷ plugin_names (map (λ x. entry_of x) (drop (i + 1) entries))
@@ -133,10 +131,12 @@ module _ {S : Type 0} (entries : List (IdentityFileEntry S)) (i : ℕ) (e : Iden
       ∙ ap (λ ns. ns ++ key.name ∷ plugin_names (map (λ x. entry_of x) (drop (i + 1) entries))) none
 
   -- the text ends before it
-  pub plugin_text : (public_of : List ℕ → List ℕ) (key : PluginKey) → entry_of e ≡ Plugin key → plugin_names (map (λ x. entry_of x) (take i entries)) ≡ [] →
+  pub plugin_text : (public_of : List ℕ → List ℕ) (key : PluginKey) → entry_of e ≡ Plugin key
+      → plugin_names (map (λ x. entry_of x) (take i entries)) ≡ [] →
       recipients_text public_of (map (λ x. entry_of x) entries) ≡ recipients_text public_of (map (λ x. entry_of x) (take i entries))
   plugin_text public_of key is none =
-      ap (recipients_text public_of) (all_seen ∙ ap (λ x. map (λ x. entry_of x) (take i entries) ++ (x ∷ map (λ x. entry_of x) (drop (i + 1) entries))) is)
+      ap (recipients_text public_of) (all_seen
+      ∙ ap (λ x. map (λ x. entry_of x) (take i entries) ++ (x ∷ map (λ x. entry_of x) (drop (i + 1) entries))) is)
       ∙ text-append public_of (map (λ x. entry_of x) (take i entries)) (Plugin key ∷ map (λ x. entry_of x) (drop (i + 1) entries)) none
       ∙ append-nil (recipients_text public_of (map (λ x. entry_of x) (take i entries)))
 
@@ -144,38 +144,41 @@ module _ {S : Type 0} (entries : List (IdentityFileEntry S)) (i : ℕ) (e : Iden
   pub native_names : (secret : List ℕ) → entry_of e ≡ Native secret →
       plugin_names (map (λ x. entry_of x) (take (i + 1) entries)) ≡ plugin_names (map (λ x. entry_of x) (take i entries))
   native_names secret is =
-      ap plugin_names (seen ∙ ap (λ x. map (λ x. entry_of x) (take i entries) ++ x ∷ []) is) ∙ names-append (map (λ x. entry_of x) (take i entries)) (Native secret ∷ [])
+      ap plugin_names (seen ∙ ap (λ x. map (λ x. entry_of x) (take i entries) ++ x ∷ []) is)
+      ∙ names-append (map (λ x. entry_of x) (take i entries)) (Native secret ∷ [])
       ∙ append-nil (plugin_names (map (λ x. entry_of x) (take i entries)))
 
-  pub native_seen : (secret : List ℕ) → entry_of e ≡ Native secret →
-      native_secrets (map (λ x. entry_of x) (take (i + 1) entries)) ≡ native_secrets (map (λ x. entry_of x) (take i entries)) ++ secret ∷ []
-  native_seen secret is =
-      ap native_secrets (seen ∙ ap (λ x. map (λ x. entry_of x) (take i entries) ++ x ∷ []) is) ∙ secrets-append (map (λ x. entry_of x) (take i entries)) (Native secret ∷ [])
-
-  pub native_text : (public_of : List ℕ → List ℕ) (secret : List ℕ) → entry_of e ≡ Native secret → plugin_names (map (λ x. entry_of x) (take i entries)) ≡ [] →
+  pub native_text : (public_of : List ℕ → List ℕ) (secret : List ℕ) → entry_of e ≡ Native secret
+      → plugin_names (map (λ x. entry_of x) (take i entries)) ≡ [] →
       recipients_text public_of (map (λ x. entry_of x) (take (i + 1) entries))
       ≡ recipients_text public_of (map (λ x. entry_of x) (take i entries)) ++ line (bech32_text recipient_prefix (public_of secret))
   native_text public_of secret is none =
       ap (recipients_text public_of) (seen ∙ ap (λ x. map (λ x. entry_of x) (take i entries) ++ x ∷ []) is)
       ∙ text-append public_of (map (λ x. entry_of x) (take i entries)) (Native secret ∷ []) none
-      ∙ ap (λ t. recipients_text public_of (map (λ x. entry_of x) (take i entries)) ++ t) (append-nil (line (bech32_text recipient_prefix (public_of secret))))
+      ∙ ap (λ t. recipients_text public_of (map (λ x. entry_of x) (take i entries)) ++ t)
+      (append-nil (line (bech32_text recipient_prefix (public_of secret))))
 
 pub line_same : (a b p q : List ℕ) → a ≡ b → p ≡ q → a ++ line (bech32_text recipient_prefix p) ≡ b ++ line (bech32_text recipient_prefix q)
 line_same a b p q front key = ap (λ x. x ++ line (bech32_text recipient_prefix p)) front ∙ ap (λ x. b ++ line (bech32_text recipient_prefix x)) key
 
 -- the list of the names begins with the one that was found
-pub name_found : (names others : List (List ℕ)) (name found : List ℕ) → found ≡ name → names ≡ name ∷ others → (x : List (List ℕ)) × (names ≡ found ∷ x)
+pub name_found : (names others : List (List ℕ)) (name found : List ℕ) → found ≡ name → names ≡ name ∷ others
+    → (x : List (List ℕ)) × (names ≡ found ∷ x)
 name_found names others name found same is = (others, is ∙ ap (λ n. n ∷ others) (sym same))
 
-module _ {S : Type 0} (entries : List (IdentityFileEntry S)) (i : ℕ) (e : IdentityFileEntry S) (within : i < length entries) (there : e ≡ get_or entries i e) where
+module _ {S : Type 0} (entries : List (IdentityFileEntry S)) (i : ℕ) (e : IdentityFileEntry S) (within : i < length entries)
+    (there : e ≡ get_or entries i e) where
   -- one more, whatever it is
-  pub names_seen : plugin_names (map (λ x. entry_of x) (take i entries)) ++ plugin_names (entry_of e ∷ []) ≡ plugin_names (map (λ x. entry_of x) (take (i + 1) entries))
+  pub names_seen : plugin_names (map (λ x. entry_of x) (take i entries)) ++ plugin_names (entry_of e ∷ [])
+      ≡ plugin_names (map (λ x. entry_of x) (take (i + 1) entries))
   names_seen = sym (ap plugin_names (seen entries i e within there) ∙ names-append (map (λ x. entry_of x) (take i entries)) (entry_of e ∷ []))
 
-  pub secrets_seen : native_secrets (map (λ x. entry_of x) (take i entries)) ++ native_secrets (entry_of e ∷ []) ≡ native_secrets (map (λ x. entry_of x) (take (i + 1) entries))
+  pub secrets_seen : native_secrets (map (λ x. entry_of x) (take i entries)) ++ native_secrets (entry_of e ∷ [])
+      ≡ native_secrets (map (λ x. entry_of x) (take (i + 1) entries))
   secrets_seen = sym (ap native_secrets (seen entries i e within there) ∙ secrets-append (map (λ x. entry_of x) (take i entries)) (entry_of e ∷ []))
 
-  pub public_seen : (public_of : List ℕ → List ℕ) (old new : List (List ℕ)) → old ≡ map (λ x. public_of x) (native_secrets (map (λ x. entry_of x) (take i entries)))
+  pub public_seen : (public_of : List ℕ → List ℕ) (old new : List (List ℕ))
+      → old ≡ map (λ x. public_of x) (native_secrets (map (λ x. entry_of x) (take i entries)))
       → new ≡ old ++ map (λ x. public_of x) (native_secrets (entry_of e ∷ []))
       → new ≡ map (λ x. public_of x) (native_secrets (map (λ x. entry_of x) (take (i + 1) entries)))
   public_seen public_of old new before more =
@@ -184,5 +187,6 @@ module _ {S : Type 0} (entries : List (IdentityFileEntry S)) (i : ℕ) (e : Iden
       ∙ ap (map (λ x. public_of x)) secrets_seen
 
 -- a plugin's name is one name more
-pub one_name : (names : List (List ℕ)) (found : List ℕ) (x : Entry) (key : PluginKey) → x ≡ Plugin key → found ≡ key.name → names ++ plugin_names (x ∷ []) ≡ names ++ found ∷ []
+pub one_name : (names : List (List ℕ)) (found : List ℕ) (x : Entry) (key : PluginKey) → x ≡ Plugin key → found ≡ key.name
+    → names ++ plugin_names (x ∷ []) ≡ names ++ found ∷ []
 one_name names found x key is same = ap (λ y. names ++ plugin_names (y ∷ [])) is ∙ ap (λ n. names ++ n ∷ []) (sym same)

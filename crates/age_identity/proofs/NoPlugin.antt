@@ -16,9 +16,11 @@ same_front : (m n : ℕ) (front other : List ℕ) → front ++ replicate m 45 �
     → ((before : List ℕ) → front ≢ before ++ 45 ∷ []) → ((before : List ℕ) → other ≢ before ++ 45 ∷ []) → front ≡ other
 same_front zero zero front other same no_more none = sym (append-nil front) ∙ same ∙ append-nil other
 same_front zero (suc n) front other same no_more none =
-    absurd (no_more (other ++ replicate n 45) (sym (append-nil front) ∙ same ∙ ap (λ xs. other ++ xs) (last_hyphen n) ∙ sym (append_assoc other (replicate n 45) (45 ∷ []))))
+    absurd (no_more (other ++ replicate n 45)
+    (sym (append-nil front) ∙ same ∙ ap (λ xs. other ++ xs) (last_hyphen n) ∙ sym (append_assoc other (replicate n 45) (45 ∷ []))))
 same_front (suc m) zero front other same no_more none =
-    absurd (none (front ++ replicate m 45) (sym (append-nil other) ∙ sym same ∙ ap (λ xs. front ++ xs) (last_hyphen m) ∙ sym (append_assoc front (replicate m 45) (45 ∷ []))))
+    absurd (none (front ++ replicate m 45) (sym (append-nil other) ∙ sym same ∙ ap (λ xs. front ++ xs) (last_hyphen m)
+    ∙ sym (append_assoc front (replicate m 45) (45 ∷ []))))
 same_front (suc m) (suc n) front other same no_more none =
     let further : (front ++ replicate m 45) ++ 45 ∷ [] ≡ (other ++ replicate n 45) ++ 45 ∷ [] =
     append_assoc front (replicate m 45) (45 ∷ []) ∙ ap (λ xs. front ++ xs) (sym (last_hyphen m)) ∙ same
@@ -49,7 +51,8 @@ no_plugin text message (inr (inl front)) other key is of =
     (subst (λ t. IsBech32 t (identity_front ++ of.before ++ 45 ∷ []) of.bytes) is of.reads)).0
 no_plugin text message (inr (inr (inl named))) other key is of =
     let (before, front, bytes, reads, trimmed, no_name, message_is) = named in
-    let same = same_between before of.before (reading text (identity_front ++ before ++ 45 ∷ []) (identity_front ++ of.before ++ 45 ∷ []) bytes of.bytes reads
+    let same = same_between before of.before
+    (reading text (identity_front ++ before ++ 45 ∷ []) (identity_front ++ of.before ++ 45 ∷ []) bytes of.bytes reads
     (subst (λ t. IsBech32 t (identity_front ++ of.before ++ 45 ∷ []) of.bytes) is of.reads)).0 in
     let one = same_trimmed of.before front of.front (subst (λ b. IsWithoutHyphens b front) same trimmed) of.trimmed in
     true-false (sym of.named ∙ ap is_name (sym one) ∙ no_name)

@@ -2,7 +2,6 @@
 use Rattle.std.proofs.Common.{◌≡◌, ◌≢◌, ◌∙◌, inr, refl, subst, ℕ, ◌+◌, ◌≤◌, ◌<◌, ◌^◌, ◌++◌, ap, append_assoc, append-nil, List, [], ◌∷◌, sym, arith, length, length-append, length-take-le, take, get_or, map, Result, Ok, Err, MatchResult}
 use Rattle.std.specs.Str.Lines.{lines, strip_carriage_return}
 use Rattle.age_base64.specs.Lines.{line, Lacks}
-use Rattle.age_base64.proofs.Lines.{Lacks-append}
 use Rattle.age_identity.specs.Entries.{Entry, AreEntries, IsBadLine, entry_of}
 use Rattle.age_identity.specs.Files.{IsEnded, EndsInBad}
 use Rattle.age_identity.specs.Progress.{IsAt, IsLine}
@@ -31,21 +30,6 @@ module _ {S : Type 0} where
   pub few_lines : (p : Parser S) (text : List ℕ) → length text < 2 ^ 63 → IsAt p text → p.finished < 2 ^ 63
   few_lines p text short here = omega (arith, here.few, short, ap length here.parts, length-append here.done here.last)
 
-  -- a byte that is no line feed
-  pub at_byte : (p q : Parser S) (byte : ℕ) (text : List ℕ) → byte ≢ 10 → (at_text : IsAt p text) → q.entries ≡ p.entries → q.finished ≡ p.finished
-      → IsLine q.line (at_text.last ++ byte ∷ []) → IsAt q (text ++ byte ∷ [])
-  at_byte p q byte text other here entries finished kept = record {
-    done = here.done;
-    last = here.last ++ byte ∷ [];
-    parts = ap (λ t. t ++ byte ∷ []) here.parts ∙ append_assoc here.done here.last (byte ∷ []);
-    ended = here.ended;
-    lacks = Lacks-append 10 here.last (byte ∷ []) here.lacks (other, tt);
-    good = subst (λ v. AreEntries (lines here.done) (map (λ e. entry_of e) v.items)) (sym entries) here.good;
-    counted = finished ∙ here.counted;
-    few = subst (λ n. n ≤ length here.done) (sym finished) here.few;
-    kept = kept;
-  }
-
   -- a line feed
   pub at_line : (p q : Parser S) (text : List ℕ) → length text < 2 ^ 63 → (at_text : IsAt p text) →
       AreEntries (lines at_text.done ++ strip_carriage_return at_text.last ∷ []) (map (λ e. entry_of e) q.entries.items) →
@@ -62,7 +46,8 @@ module _ {S : Type 0} where
         ended = inr (text, refl);
         lacks = tt;
         good = subst (λ ls. AreEntries ls (map (λ e. entry_of e) q.entries.items)) (sym (ap lines all ∙ cut)) good;
-        counted = finished ∙ ap (λ n. n + 1) here.counted ∙ sym (length-append (lines here.done) (strip_carriage_return here.last ∷ [])) ∙ ap length (sym (ap lines all ∙ cut));
+        counted = finished ∙ ap (λ n. n + 1) here.counted ∙ sym (length-append (lines here.done) (strip_carriage_return here.last ∷ []))
+            ∙ ap length (sym (ap lines all ∙ cut));
         few = let h : q.finished ≤ length (text ++ 10 ∷ []) = omega (arith, finished, here.few, size, whole) in h;
         kept = kept;
       }
@@ -86,13 +71,15 @@ module _ {S : Type 0} where
       subst (λ ls. AreEntries ls entries) (sym (ap lines here.parts ∙ lines_last here.done here.last here.ended here.lacks some)) good
 
   -- nothing follows the last line feed
-  pub no_line : (p : Parser S) (text : List ℕ) → (at_text : IsAt p text) → at_text.last ≡ [] → AreEntries (lines text) (map (λ e. entry_of e) p.entries.items)
+  pub no_line : (p : Parser S) (text : List ℕ) → (at_text : IsAt p text) → at_text.last ≡ []
+      → AreEntries (lines text) (map (λ e. entry_of e) p.entries.items)
   no_line p text here none =
       let whole : text ≡ here.done = here.parts ∙ ap (λ l. here.done ++ l) none ∙ append-nil here.done in
       subst (λ t. AreEntries (lines t) (map (λ e. entry_of e) p.entries.items)) (sym whole) here.good
 
   -- the last line is bad
-  pub bad_last : (p : Parser S) (number : ℕ) (text : List ℕ) → (at_text : IsAt p text) → at_text.last ≢ [] → number ≡ p.finished + 1 → IsBadLine at_text.last →
+  pub bad_last : (p : Parser S) (number : ℕ) (text : List ℕ) → (at_text : IsAt p text) → at_text.last ≢ [] → number ≡ p.finished + 1
+      → IsBadLine at_text.last →
       EndsInBad text number
   bad_last p number text here some counted bad = record {
     before = lines here.done;

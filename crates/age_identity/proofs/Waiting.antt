@@ -1,15 +1,12 @@
 -- A reader with a limit whose calls were interrupted.
-use Rattle.std.proofs.Common.{◌≡◌, ◌∙◌, inl, inr, refl, subst, arith, ℕ, ◌+◌, ◌<◌, ◌≤◌, IsTrue, false, List, length, take, Result, Ok, Err, IfErr}
-use Rattle.std.specs.Prelude.{IsErrAnd}
+use Rattle.std.proofs.Common.{◌≡◌, ◌∙◌, inl, subst, arith, ℕ, ◌+◌, ◌<◌, ◌≤◌, IsTrue, false, List, length, take, Result, Ok, Err, IfErr}
 use Rattle.age_error.specs.Refusals.{IsInterruption}
 use Rattle.age_error.specs.declared.io.Error.{Error}
-use Rattle.age_error.specs.declared.io.Error.TheVariants.{Device}
-use Rattle.age_error.specs.declared.io.ErrorKind.TheVariants.{Interrupted as interrupted, Other}
+use Rattle.age_error.specs.declared.io.ErrorKind.TheVariants.{Interrupted as interrupted}
 use Rattle.age_io.specs.declared.traits.Read.{Ghosts}
 use Rattle.age_io.specs.Reading.{AddsNoReason, TriedAgain, Reads, StaysOrFails, Delivers}
 use Rattle.age_io.specs.Stretch.{IsFault, IsCleanEnd}
-use Rattle.age_io.proofs.Keeping.{same-later, same-read}
-use Rattle.age_io.proofs.Retrying.{Interrupted, rose-by, interrupted-by, interruption-why, refused-by, tried-narrows}
+use Rattle.age_io.proofs.Retrying.{Interrupted, tried-narrows}
 use Rattle.age_identity.specs.declared.util.LimitedReader.{LimitedReader}
 use Rattle.age_identity.specs.declared.parser.Parser.{Parser}
 use Rattle.age_identity.specs.Progress.{IsAt}
@@ -22,18 +19,6 @@ pub record IsWaiting {R : Type 0} (read : Ghosts R) (old new : LimitedReader R) 
   pub left : left_of new ≡ left_of old
 
 module _ {R : Type 0} (read : Ghosts R) (old middle new : R) (calls : ℕ) (w : Interrupted read old middle calls) where
-  -- one call more was interrupted
-  pub waits_more : (part : List ℕ) (result : Result ℕ Error) → IsErrAnd result IsInterruption →
-      Reads read.tells read.steady read.content read.place read.rest read.faults read.refuses middle new part result → Interrupted read old new (calls + 1)
-  waits_more part result is r = record {
-    same = same-later read old middle new w.same (same-read read middle new r);
-    rose = λ _. let h : read.faults middle < read.faults new = rose-by result is r.device in omega (arith, h, w.same.faults);
-    same_place = λ told. refused-by result is (r.stays (w.same.tells ∙ told)) ∙ w.same_place told;
-    same_rest = λ told. interrupted-by result is (r.interrupted (w.same.tells ∙ told)) ∙ w.same_rest told;
-    narrows = λ e h. w.narrows e (interrupted-by result is r.again e h);
-    worn = λ _. w.narrows (Device interrupted) (interruption-why (read.refuses middle) result is r.why);
-  }
-
   -- a call wasn't interrupted
   pub waits_ended : (part : List ℕ) (result : Result ℕ Error) → IfErr result (λ e. IsInterruption e → ⊥) →
       Reads read.tells read.steady read.content read.place read.rest read.faults read.refuses middle new part result →
@@ -78,29 +63,6 @@ module _ {R : Type 0} (read : Ghosts R) (old middle new : R) (calls : ℕ) (w : 
         let same : read.faults new ≡ read.faults middle = omega (arith, quiet.same, r.no_fewer_faults, w.same.faults) in
         subst IsFault (w.same_rest told) (r.cause (w.same.tells ∙ told) other (record { same = same; below = quiet.below }));
   }
-
--- it was interrupted too often
-pub waits_out : {R : Type 0} (read : Ghosts R) (old new : R) (calls : ℕ) → 0 < calls → Interrupted read old new calls → (part : List ℕ) →
-    Reads read.tells read.steady read.content read.place read.rest read.faults (TriedAgain read.refuses) old new part (Err (Device Other))
-waits_out read old new calls some w part = record {
-  count = tt;
-  same_tells = w.same.tells;
-  same_steady = w.same.steady;
-  no_fewer_faults = w.same.faults;
-  device = λ _. w.rose some;
-  unspent = tt;
-  why = inr (refl, w.worn some);
-  narrows = tt;
-  again = λ is. absurd is;
-  same_content = w.same.content;
-  bytes = λ told. tt;
-  moves = λ told. tt;
-  end = λ told. tt;
-  stays = w.same_place;
-  left = λ told. inl (w.same_rest told);
-  interrupted = λ told is. absurd is;
-  cause = λ told other quiet. absurd (omega (arith, w.rose some, quiet.same));
-}
 
 -- What was read of a file so far: the text, whose finished lines are good, was taken from the front of what the reader had, and what its
 -- limit leaves is so much less.

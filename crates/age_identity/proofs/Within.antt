@@ -1,18 +1,17 @@
 -- Steps of a reader with a limit.
-use Rattle.std.proofs.Common.{◌≡◌, ℕ, ◌+◌, ◌-◌, ◌≤◌, ◌<◌, Bool, true, false, ◌&&◌, IsTrue, Ok, Err, Result, Bor, subst, List, [], ◌++◌, length, take, drop, refl, arith, sym, ap, ◌∙◌, length-take-le, length-take, length-append, inl, inr}
+use Rattle.std.proofs.Common.{◌≡◌, ℕ, ◌+◌, ◌-◌, ◌≤◌, ◌<◌, Bool, true, false, ◌&&◌, IsTrue, Ok, Result, Bor, subst, List, [], ◌++◌, length, take, drop, refl, arith, sym, ap, ◌∙◌, length-take-le, length-take, length-append, inl, inr}
 use Rattle.std.specs.Prelude.{nat_le, min}
 use Rattle.std.proofs.Math.Seq.{drop-nil, take-nil, take-append-add, take-add}
 use Rattle.std.proofs.Math.Bool.{and-false}
 use Rattle.std.proofs.lemmas.Bool.{cases_lt, lt-leb, le-leb}
 use Rattle.std.proofs.lemmas.List.{take-take, drop-take, take_all, take-append-le}
 use Rattle.age_error.specs.declared.io.Error.{Error}
-use Rattle.age_error.specs.declared.io.Error.TheVariants.{LimitExceeded}
 use Rattle.age_io.specs.Stretch.{Stretch, IsFault, IsCleanEnd}
-use Rattle.age_io.specs.Reading.{Reads, Delivers, StaysOrFails, AddsNoReason}
+use Rattle.age_io.specs.Reading.{Reads, Delivers, AddsNoReason}
 use Rattle.age_io.specs.Filling.{Consumes, Fills, IsFront}
 use Rattle.age_io.specs.declared.traits.Read.{Ghosts}
 use Rattle.age_identity.specs.Limiting.{limited, rest_within, shown_within}
-use Rattle.age_identity.specs.LimitLemmas.{le_same, limited_nothing}
+use Rattle.age_identity.specs.LimitLemmas.{le_same}
 use Rattle.age_identity.specs.Limited.{inner_of, is_past, left_of, content_of, place_of, rest_of, refuses_of, Limits}
 
 true-false : true ≡ false → ⊥
@@ -60,18 +59,6 @@ end_within left s end = record {
       ap (λ b. b && nat_le (length s.bytes) left) end.ends_well ∙ le-leb (length s.bytes) left (omega (arith, none));
 }
 
--- where nothing but a fault is left, none is within the limit
-pub fault_within : (left : ℕ) (s : Stretch) → IsFault s → IsFault (limited left s)
-fault_within left s fault = record {
-  bytes = ap (take left) fault.bytes ∙ take-nil left;
-  ends_badly = ap (λ b. b && nat_le (length s.bytes) left) fault.ends_badly;
-}
-
--- a reader that stays, or has failed, does so within the limit
-pub stays_within : (left : ℕ) (old new : Stretch) → StaysOrFails old new → StaysOrFails (limited left old) (limited left new)
-stays_within left old new (inl same) = inl (ap (limited left) same)
-stays_within left old new (inr gone) = inr (ap (limited left) gone ∙ limited_nothing left)
-
 -- at the limit a byte is one too many
 pub fault_at : (s : Stretch) → 0 < length s.bytes → IsFault (limited 0 s)
 fault_at s some = record { bytes = refl; ends_badly = ap (λ b. s.ends_well && b) (lt-leb (length s.bytes) 0 some) ∙ and-false s.ends_well }
@@ -91,36 +78,12 @@ pub content_same : (old new : Stretch) (place left later after : ℕ) → new �
 content_same old new place left later after same further = ap (λ n. limited n new) further ∙ ap (limited (place + left)) same
 
 module _ {R : Type 0} (read : Ghosts R) (old new : R) (left : ℕ) where
-  -- a read of the inner reader that refused
-  pub reads_refused : (e : Error) (part buf : List ℕ) →
-      Reads read.tells read.steady read.content read.place read.rest read.faults read.refuses old new part (Err e) →
-      Reads (λ r. read.tells (inner_of r)) (λ r. read.steady (inner_of r)) (content_of read) (place_of read) (rest_of read) (λ r. read.faults (inner_of r)) (refuses_of read)
-      (record { inner = old; left = left; past = false }) (record { inner = new; left = left; past = false }) buf (Err e)
-  reads_refused e part buf r = record {
-    count = tt;
-    same_tells = r.same_tells;
-    same_steady = r.same_steady;
-    no_fewer_faults = r.no_fewer_faults;
-    device = r.device;
-    unspent = tt;
-    why = inr r.why;
-    narrows = tt;
-    again = λ is. narrows_within read old new left left false r.same_tells
-        (λ told some. subst (λ s. left < length s.bytes) (r.interrupted told is) some) (r.again is);
-    same_content = λ told. content_same _ _ (read.place old) left (read.place new) left (r.same_content told) (ap (λ n. n + left) (r.stays told));
-    bytes = λ told. tt;
-    moves = λ told. tt;
-    end = λ told. tt;
-    stays = r.stays;
-    left = λ told. stays_within left _ _ (r.left told);
-    interrupted = λ told is. ap (limited left) (r.interrupted told is);
-    cause = λ told other quiet. fault_within left _ (r.cause told other quiet);
-  }
-
   -- a read of the inner reader into as much of a buffer as the limit leaves
-  pub reads_count : (count : ℕ) (part buf : List ℕ) → count ≤ left → length part ≤ length buf → (0 < length buf → 0 < length part) → take count buf ≡ take count part →
+  pub reads_count : (count : ℕ) (part buf : List ℕ) → count ≤ left → length part ≤ length buf → (0 < length buf → 0 < length part)
+      → take count buf ≡ take count part →
       Reads read.tells read.steady read.content read.place read.rest read.faults read.refuses old new part (Ok count) →
-      Reads (λ r. read.tells (inner_of r)) (λ r. read.steady (inner_of r)) (content_of read) (place_of read) (rest_of read) (λ r. read.faults (inner_of r)) (refuses_of read)
+      Reads (λ r. read.tells (inner_of r)) (λ r. read.steady (inner_of r)) (content_of read) (place_of read) (rest_of read)
+      (λ r. read.faults (inner_of r)) (refuses_of read)
       (record { inner = old; left = left; past = false }) (record { inner = new; left = left - count; past = false }) buf (Ok count)
   reads_count count part buf fits within some same r = record {
     count = let h : count ≤ length buf = omega (arith, r.count, within) in h;
@@ -133,7 +96,8 @@ module _ {R : Type 0} (read : Ghosts R) (old new : R) (left : ℕ) where
     narrows = narrows_within read old new left (left - count) false r.same_tells
         (λ told more. meets_before part count left _ _ r.count fits (r.bytes told) more) r.narrows;
     again = tt;
-    same_content = λ told. content_same _ _ (read.place old) left (read.place new) (left - count) (r.same_content told) (omega (arith, r.moves told, fits));
+    same_content = λ told. content_same _ _ (read.place old) left (read.place new) (left - count) (r.same_content told)
+        (omega (arith, r.moves told, fits));
     bytes = λ told. subst (λ xs. Delivers xs (limited left (read.rest old)) (limited (left - count) (read.rest new))) (sym same)
         (gives_count part count left _ _ r.count fits (r.bytes told));
     moves = r.moves;
@@ -145,9 +109,11 @@ module _ {R : Type 0} (read : Ghosts R) (old new : R) (left : ℕ) where
   }
 
   -- the same of a reader that isn't past its limit, whose buffer has a further part
-  pub reads_part : (count : ℕ) (part after buf : List ℕ) (past : Bool) → past ≡ false → count ≤ left → buf ≡ part ++ after → (0 < length buf → 0 < length part) →
+  pub reads_part : (count : ℕ) (part after buf : List ℕ) (past : Bool) → past ≡ false → count ≤ left → buf ≡ part ++ after
+      → (0 < length buf → 0 < length part) →
       Reads read.tells read.steady read.content read.place read.rest read.faults read.refuses old new part (Ok count) →
-      Reads (λ r. read.tells (inner_of r)) (λ r. read.steady (inner_of r)) (content_of read) (place_of read) (rest_of read) (λ r. read.faults (inner_of r)) (refuses_of read)
+      Reads (λ r. read.tells (inner_of r)) (λ r. read.steady (inner_of r)) (content_of read) (place_of read) (rest_of read)
+      (λ r. read.faults (inner_of r)) (refuses_of read)
       (record { inner = old; left = left; past = past }) (record { inner = new; left = left - count; past = past }) buf (Ok count)
   reads_part count part after buf true is fits whole some r = absurd (true-false is)
   reads_part count part after buf false is fits whole some r =
@@ -158,7 +124,8 @@ module _ {R : Type 0} (read : Ghosts R) (shown : R → List ℕ) (old new : R) (
   -- what was shown within the limit was taken
   pub consumes_within : (past : Bool) → amount ≤ length (shown_within past left (shown old)) →
       Consumes read.tells read.steady read.content read.place read.rest read.faults read.refuses shown old new amount →
-      Consumes (λ r. read.tells (inner_of r)) (λ r. read.steady (inner_of r)) (content_of read) (place_of read) (rest_of read) (λ r. read.faults (inner_of r)) (refuses_of read)
+      Consumes (λ r. read.tells (inner_of r)) (λ r. read.steady (inner_of r)) (content_of read) (place_of read) (rest_of read)
+      (λ r. read.faults (inner_of r)) (refuses_of read)
       (λ r. shown_within (is_past r) (left_of r) (shown (inner_of r)))
       (record { inner = old; left = left; past = past }) (record { inner = new; left = left - amount; past = past }) amount
   consumes_within true most took =
@@ -170,7 +137,8 @@ module _ {R : Type 0} (read : Ghosts R) (shown : R → List ℕ) (old new : R) (
         narrows = narrows_within read old new left (left - amount) true took.same_tells
             (λ told more. meets_before (shown old) amount left _ _ (omega (arith, none)) (omega (arith, none)) (took.bytes told) more) took.narrows;
         shows = sym (drop-nil amount);
-        same_content = λ told. content_same _ _ (read.place old - 1) left (read.place new - 1) (left - amount) (took.same_content told) (omega (arith, took.moves told, none));
+        same_content = λ told. content_same _ _ (read.place old - 1) left (read.place new - 1) (left - amount) (took.same_content told)
+            (omega (arith, took.moves told, none));
         bytes = λ told. record { bytes = sym (ap (λ xs. xs ++ []) (take-nil amount)); end = refl };
         moves = λ told. omega (arith, took.moves told, none);
       }
@@ -185,51 +153,21 @@ module _ {R : Type 0} (read : Ghosts R) (shown : R → List ℕ) (old new : R) (
         same_faults = took.same_faults;
         narrows = narrows_within read old new left (left - amount) false took.same_tells
             (λ told more. meets_before (shown old) amount left _ _ within fits (took.bytes told) more) took.narrows;
-        shows = ap (take (left - amount)) took.shows ∙ sym (drop-take amount (left - amount) (shown old)) ∙ ap (λ n. drop amount (take n (shown old))) whole;
-        same_content = λ told. content_same _ _ (read.place old) left (read.place new) (left - amount) (took.same_content told) (omega (arith, took.moves told, fits));
+        shows = ap (take (left - amount)) took.shows ∙ sym (drop-take amount (left - amount) (shown old))
+            ∙ ap (λ n. drop amount (take n (shown old))) whole;
+        same_content = λ told. content_same _ _ (read.place old) left (read.place new) (left - amount) (took.same_content told)
+            (omega (arith, took.moves told, fits));
         bytes = λ told. subst (λ xs. Delivers xs (limited left (read.rest old)) (limited (left - amount) (read.rest new)))
             (sym (take-take amount left (shown old) fits)) (gives_count (shown old) amount left _ _ within fits (took.bytes told));
         moves = took.moves;
       }
 
 module _ {R : Type 0} (read : Ghosts R) (shown : R → List ℕ) (besides : R → R → Result (Bor (List ℕ)) Error → Type 0) where
-  -- what the inner reader refused with is handed on
-  pub fills_refused : (old new : R) (left : ℕ) (e : Error) →
-      Fills read.tells read.steady read.content read.place read.rest read.faults read.refuses shown besides old new (Err e) →
-      Fills (λ r. read.tells (inner_of r)) (λ r. read.steady (inner_of r)) (content_of read) (place_of read) (rest_of read) (λ r. read.faults (inner_of r)) (refuses_of read)
-      (λ r. shown_within (is_past r) (left_of r) (shown (inner_of r))) (Limits read.refuses (λ _. 0))
-      (record { inner = old; left = left; past = false }) (record { inner = new; left = left; past = false }) (Err e)
-  fills_refused old new left e f = record {
-    same_tells = f.same_tells;
-    same_steady = f.same_steady;
-    no_fewer_faults = f.no_fewer_faults;
-    device = f.device;
-    unspent = tt;
-    why = inr f.why;
-    narrows = tt;
-    again = λ is. narrows_within read old new left left false f.same_tells
-        (λ told some. subst (λ s. left < length s.bytes) (f.interrupted told is) some) (f.again is);
-    shows = tt;
-    own = record {
-      still = λ is. absurd (true-false (sym is));
-      exceeded = λ is. absurd (true-false (sym is));
-      met = λ is _. absurd (true-false (sym is));
-      counts = tt;
-      keeps = refl;
-      hands_on = λ _. f.why;
-    };
-    same_content = λ told. content_same _ _ (read.place old) left (read.place new) left (f.same_content told) (ap (λ n. n + left) (f.stays told));
-    stays = f.stays;
-    same_rest = λ told. tt;
-    left = λ told. stays_within left _ _ (f.left told);
-    interrupted = λ told is. ap (limited left) (f.interrupted told is);
-    cause = λ told other quiet. fault_within left _ (f.cause told other quiet);
-  }
-
   -- what the inner reader shows is shown within the limit
   pub fills_shown : (old new : R) (left : ℕ) (front mine : Bor (List ℕ)) → mine.now ≡ take left front.now →
       Fills read.tells read.steady read.content read.place read.rest read.faults read.refuses shown besides old new (Ok front) →
-      Fills (λ r. read.tells (inner_of r)) (λ r. read.steady (inner_of r)) (content_of read) (place_of read) (rest_of read) (λ r. read.faults (inner_of r)) (refuses_of read)
+      Fills (λ r. read.tells (inner_of r)) (λ r. read.steady (inner_of r)) (content_of read) (place_of read) (rest_of read)
+      (λ r. read.faults (inner_of r)) (refuses_of read)
       (λ r. shown_within (is_past r) (left_of r) (shown (inner_of r))) (Limits read.refuses (λ _. 0))
       (record { inner = old; left = left; past = false }) (record { inner = new; left = left; past = false }) (Ok mine)
   fills_shown old new left front mine is f = record {
@@ -259,51 +197,11 @@ module _ {R : Type 0} (read : Ghosts R) (shown : R → List ℕ) (besides : R �
     cause = λ told. tt;
   }
 
-  -- a byte at the limit was taken
-  pub fills_past : (old middle new : R) (front : Bor (List ℕ)) → 0 < length front.now →
-      Fills read.tells read.steady read.content read.place read.rest read.faults read.refuses shown besides old middle (Ok front) →
-      Consumes read.tells read.steady read.content read.place read.rest read.faults read.refuses shown middle new 1 →
-      Fills (λ r. read.tells (inner_of r)) (λ r. read.steady (inner_of r)) (content_of read) (place_of read) (rest_of read) (λ r. read.faults (inner_of r)) (refuses_of read)
-      (λ r. shown_within (is_past r) (left_of r) (shown (inner_of r))) (Limits read.refuses (λ _. 0))
-      (record { inner = old; left = 0; past = false }) (record { inner = new; left = 0; past = true }) (Err LimitExceeded)
-  fills_past old middle new front some f took =
-      let more : IsTrue (read.tells old) → 0 < length (read.rest old).bytes = λ told.
-      let d = took.bytes (f.same_tells ∙ told) in
-      let size : length (take 1 (shown middle)) ≡ 1 = length-take-le 1 (shown middle) (omega (arith, some, ap length f.shows)) in
-      let whole = ap length d.bytes ∙ length-append (take 1 (shown middle)) (read.rest new).bytes in
-      omega (arith, size, whole, ap (λ s. length s.bytes) (f.same_rest told)) in
-      record {
-        same_tells = took.same_tells ∙ f.same_tells;
-        same_steady = took.same_steady ∙ f.same_steady;
-        no_fewer_faults = let h : read.faults old ≤ read.faults new = omega (arith, f.no_fewer_faults, took.same_faults) in h;
-        device = λ is. absurd is;
-        unspent = tt;
-        why = inl (refl, inr more);
-        narrows = tt;
-        again = λ is. absurd is;
-        shows = tt;
-        own = record {
-          still = λ is. absurd (true-false (sym is));
-          exceeded = λ is. refl;
-          met = λ is within. refl;
-          counts = tt;
-          keeps = refl;
-          hands_on = λ is. absurd (true-false is);
-        };
-        same_content = λ told.
-            content_same _ _ (read.place old) 0 (read.place new - 1) 0 (took.same_content (f.same_tells ∙ told) ∙ f.same_content told)
-            (omega (arith, took.moves (f.same_tells ∙ told), f.stays told));
-        stays = λ told. let h : read.place new - 1 ≡ read.place old = omega (arith, took.moves (f.same_tells ∙ told), f.stays told) in h;
-        same_rest = λ told. tt;
-        left = λ told. inr refl;
-        interrupted = λ told is. absurd is;
-        cause = λ told other quiet. fault_at (read.rest old) (more told);
-      }
-
   -- the same of a reader that isn't past its limit
   pub fills_part : (old new : R) (left : ℕ) (past : Bool) (front mine : Bor (List ℕ)) → past ≡ false → mine.now ≡ take left front.now →
       Fills read.tells read.steady read.content read.place read.rest read.faults read.refuses shown besides old new (Ok front) →
-      Fills (λ r. read.tells (inner_of r)) (λ r. read.steady (inner_of r)) (content_of read) (place_of read) (rest_of read) (λ r. read.faults (inner_of r)) (refuses_of read)
+      Fills (λ r. read.tells (inner_of r)) (λ r. read.steady (inner_of r)) (content_of read) (place_of read) (rest_of read)
+      (λ r. read.faults (inner_of r)) (refuses_of read)
       (λ r. shown_within (is_past r) (left_of r) (shown (inner_of r))) (Limits read.refuses (λ _. 0))
       (record { inner = old; left = left; past = past }) (record { inner = new; left = left; past = past }) (Ok mine)
   fills_part old new left true front mine within is f = absurd (true-false within)
@@ -334,9 +232,3 @@ pub ends_within : (front : List ℕ) (rest : Stretch) (left m : ℕ) (past : Boo
 ends_within front rest left m true within is some ends none = absurd (true-false within)
 ends_within front rest left m false within is some ends none =
     end_within left rest (ends (omega (arith, is, length-take m front, none)))
-
--- a byte that was read stood there
-pub byte_there : (part : List ℕ) (n : ℕ) (old new : Stretch) → n ≤ length part → 0 < n → Delivers (take n part) old new → 0 < length old.bytes
-byte_there part n old new within some d =
-    let size : length (take n part) ≡ n = length-take-le n part within in
-    omega (arith, size, ap length d.bytes, length-append (take n part) new.bytes, some)

@@ -13,7 +13,8 @@ module _ (asks : List ℕ → StanzaValue → UnwrapAnswer → Type 0) where
   -- program's name can be refused.
   abbrev pub EntryAnswers : List StanzaValue → Entry → UnwrapAnswer → Type 0
   EntryAnswers stanzas (Native secret) answer = FirstOf (Steady asks) secret stanzas answer secret
-  EntryAnswers stanzas (Plugin key) answer = (answer ≡ Some (Err (PluginResolve (MissingPlugin (program_of key.name))))) ⊎ (answer ≡ Some (Err OutOfMemory))
+  EntryAnswers stanzas (Plugin key) answer =
+      (answer ≡ Some (Err (PluginResolve (MissingPlugin (program_of key.name))))) ⊎ (answer ≡ Some (Err OutOfMemory))
 
   -- What the entries of a file answer: each is asked for all of the stanzas, and the first whose answer isn't None decides.
   abbrev pub EntriesAnswer : List Entry → List StanzaValue → UnwrapAnswer → Type 0

@@ -59,7 +59,8 @@ RefusesRecipients entries refusal =
 -- Why there are no identities: the plugin of the first identity of one isn't there, or memory was refused.
 abbrev pub RefusesIdentities : List Entry → decrypt.DecryptRefusal → Type 0
 RefusesIdentities entries refusal =
-    ((name : List ℕ) × (others : List (List ℕ)) × (plugin_names entries ≡ name ∷ others) × (refusal ≡ decrypt.PluginResolve (MissingPlugin (program_of name))))
+    ((name : List ℕ) × (others : List (List ℕ)) × (plugin_names entries ≡ name ∷ others)
+    × (refusal ≡ decrypt.PluginResolve (MissingPlugin (program_of name))))
     ⊎ (refusal ≡ decrypt.OutOfMemory)
 
 -- What is refused in writing recipients, and what was written.

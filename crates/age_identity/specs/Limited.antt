@@ -69,7 +69,8 @@ pub record Limits {R A : Type 0} (refuses : R → Error → Type 0) (given : A �
   pub hands_on : is_past new ≡ false → IfErr result (refuses (inner_of old))
 
 -- What a read says of the inner reader: it read into a part of the buffer, or into room of its own where nothing was given.
-pub record ReadsWithin {R : Type 0} (read : Ghosts R) (refuses : R → Error → Type 0) (old new : R) (buf : List ℕ) (result : Result ℕ Error) : Type 0 where
+pub record ReadsWithin {R : Type 0} (read : Ghosts R) (refuses : R → Error → Type 0) (old new : R) (buf : List ℕ)
+    (result : Result ℕ Error) : Type 0 where
   pub part : List ℕ
   pub some : 0 < length part
   pub same : IfOk result (λ n. take n buf ≡ take n part)

@@ -39,7 +39,8 @@ RefusesIdentityFile read limit old last e =
     ⊎ (TriedAgain read.refuses old e × (IsTrue (read.tells old) → FileBreaksOff limit (read.faults old) (read.faults last) (read.rest old) e))
 
 -- What reading a file answers, whose entries were found, where `last` is what the reader is in the end.
-pub record ReadsEntries {R A : Type 0} (read : Ghosts R) (limit : ℕ) (entries : A → List Entry) (input last : R) (result : Result A Error) : Type 0 where
+pub record ReadsEntries {R A : Type 0} (read : Ghosts R) (limit : ℕ) (entries : A → List Entry) (input last : R)
+    (result : Result A Error) : Type 0 where
   pub faults : read.faults input ≤ read.faults last
   pub device : IfErr result (λ e. IsDevice e → read.faults input < read.faults last)
   pub patient : IfErr result (λ e. IsInterruption e → ⊥)

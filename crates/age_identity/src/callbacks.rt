@@ -85,21 +85,24 @@ fn confirm_in_box(
     yes: &str,
     no: Option<&str>,
 ) -> Option<bool>
-    ensures { Changes callbacks.old (λ before after. (Callbacks-box callbacks.old).confirms before message.now yes.now (option_map (λ word. word.now) no.entry) result after) callbacks.new }
+    ensures { Changes callbacks.old (λ before after. (Callbacks-box callbacks.old).confirms before message.now yes.now
+        (option_map (λ word. word.now) no.entry) result after) callbacks.new }
 {
     (**callbacks).confirm(message, yes, no)
 }
 
 // The same of a text that they give.
 fn string_in_box(callbacks: &mut Box<dyn Callbacks>, description: &str) -> Option<String>
-    ensures { Changes callbacks.old (λ before after. (Callbacks-box callbacks.old).gives_string before description.now (option_map (λ text. string_bytes text) result) after) callbacks.new }
+    ensures { Changes callbacks.old (λ before after. (Callbacks-box callbacks.old).gives_string before description.now
+        (option_map (λ text. string_bytes text) result) after) callbacks.new }
 {
     (**callbacks).request_public_string(description)
 }
 
 // The same of a passphrase.
 fn passphrase_in_box(callbacks: &mut Box<dyn Callbacks>, description: &str) -> Option<SecretString>
-    ensures { Changes callbacks.old (λ before after. (Callbacks-box callbacks.old).gives_passphrase before description.now (option_map (λ text. text) result) after) callbacks.new }
+    ensures { Changes callbacks.old (λ before after. (Callbacks-box callbacks.old).gives_passphrase before description.now
+        (option_map (λ text. text) result) after) callbacks.new }
 {
     (**callbacks).request_passphrase(description)
 }
@@ -108,11 +111,14 @@ fn passphrase_in_box(callbacks: &mut Box<dyn Callbacks>, description: &str) -> O
 impl Callbacks for Box<dyn Callbacks> {
     ghost displays = { λ callbacks message after. Changes callbacks (λ before after. (Callbacks-box callbacks).displays before message after) after };
 
-    ghost confirms = { λ callbacks message yes no answer after. Changes callbacks (λ before after. (Callbacks-box callbacks).confirms before message yes no answer after) after };
+    ghost confirms = { λ callbacks message yes no answer after. Changes callbacks
+        (λ before after. (Callbacks-box callbacks).confirms before message yes no answer after) after };
 
-    ghost gives_string = { λ callbacks description answer after. Changes callbacks (λ before after. (Callbacks-box callbacks).gives_string before description answer after) after };
+    ghost gives_string = { λ callbacks description answer after. Changes callbacks
+        (λ before after. (Callbacks-box callbacks).gives_string before description answer after) after };
 
-    ghost gives_passphrase = { λ callbacks description answer after. Changes callbacks (λ before after. (Callbacks-box callbacks).gives_passphrase before description answer after) after };
+    ghost gives_passphrase = { λ callbacks description answer after. Changes callbacks
+        (λ before after. (Callbacks-box callbacks).gives_passphrase before description answer after) after };
 
     fn display_message(&mut self, message: &str) {
         display_in_box(self, message)

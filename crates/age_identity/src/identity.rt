@@ -155,7 +155,8 @@ impl<S, C> IdentityFile<S, C> {
 
     // That the file has no identity.
     fn no_identities(&self) -> IdentityFileConvertError
-        ensures { let refusal = convert_refusal result in (refusal ≡ NoIdentities (filename_of self.now)) ⊎ (refusal ≡ FailedToWriteOutput out_of_memory) }
+        ensures { let refusal = convert_refusal result in
+            (refusal ≡ NoIdentities (filename_of self.now)) ⊎ (refusal ≡ FailedToWriteOutput out_of_memory) }
     {
         match self.copied_name() {
             Ok(filename) => IdentityFileConvertError::NoIdentities { filename },
@@ -197,7 +198,8 @@ impl<S: Suite, C> IdentityFile<S, C> {
         alloc: Global,
         output: &mut W,
     ) -> Result<(), IdentityFileConvertError>
-        ensures { Converts W.tells W.faults W.refuses W.appended (recipients_text S.public_of (entries_of self.now)) (entries_of self.now) (filename_of self.now)
+        ensures { Converts W.tells W.faults W.refuses W.appended (recipients_text S.public_of (entries_of self.now)) (entries_of self.now)
+            (filename_of self.now)
             output.old output.new (result_map_both (λ _. tt) (λ e. convert_refusal e) result) }
     {
         let entries = self.entries.as_slice();
@@ -352,7 +354,8 @@ fn add_recipient<S: Suite>(
     recipients: &mut Vec<x25519::Recipient<S>>,
     entry: &IdentityFileEntry<S>,
 ) -> Result<(), AllocError>
-    ensures { OnOk result (recipients.new.items ≡ recipients.old.items ++ map (λ secret. S.public_of secret) (native_secrets (entry_of entry.now ∷ []))) }
+    ensures { OnOk result (recipients.new.items
+        ≡ recipients.old.items ++ map (λ secret. S.public_of secret) (native_secrets (entry_of entry.now ∷ []))) }
 {
     let IdentityFileEntry::Native(identity) = entry else {
         return Ok(());

@@ -23,7 +23,8 @@ pub(crate) enum Judged<S> {
 
 // The native identity of a text, if it is one's. It takes no memory.
 fn native_of<S>(text: &str) -> Option<x25519::Identity<S>>
-    ensures { MatchOption result ((secret : List ℕ) → IsKeyText identity_prefix text.now secret → ⊥) (λ secret. IsKeyText identity_prefix text.now secret) }
+    ensures { MatchOption result ((secret : List ℕ) → IsKeyText identity_prefix text.now secret → ⊥)
+        (λ secret. IsKeyText identity_prefix text.now secret) }
 {
     match x25519::Identity::from_str(text) {
         Ok(identity) => Some(identity),

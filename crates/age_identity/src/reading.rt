@@ -1,6 +1,6 @@
 //! Reading identity files.
-ghost use Rattle.std.specs.Prelude.{◌≡◌, ◌+◌, ◌≤◌, ◌<◌, ◌^◌, ◌⊎◌, ℕ, List, length, map, true, false, IsTrue, IfOk, IfErr};
-ghost use Rattle.age_error.specs.Refusals.{IsDevice, IsInterruption};
+ghost use Rattle.std.specs.Prelude.{◌≡◌, ◌+◌, ◌<◌, ◌^◌, length, map, true, false, IfOk, IfErr};
+ghost use Rattle.age_error.specs.Refusals.{IsInterruption};
 ghost use Rattle.age_io.specs.Reading.{TriedAgain};
 ghost use Rattle.age_identity.specs.Entries.{entry_of};
 ghost use Rattle.age_identity.specs.Limited.{inner_of, left_of, is_past, ReadsWithin, Meets};
@@ -38,7 +38,8 @@ pub(crate) fn read_entries<S, R: Read>(
 ) -> Result<Vec<IdentityFileEntry<S>>, Error>
     requires within { is_past reader.old ≡ false }
     requires few { left_of reader.old < 2 ^ 62 }
-    ensures { ReadsEntries ⟦<R as Read>⟧ (left_of reader.old) (λ entries. map (λ e. entry_of e) entries.items) (inner_of reader.old) (inner_of reader.new) result }
+    ensures { ReadsEntries ⟦<R as Read>⟧ (left_of reader.old) (λ entries. map (λ e. entry_of e) entries.items) (inner_of reader.old)
+        (inner_of reader.new) result }
 {
     let mut room = [0; ROOM];
     let mut parser = Parser::new(alloc);

@@ -1,8 +1,9 @@
 //! A reader with a limit.
-ghost use Rattle.std.specs.Prelude.{◌≡◌, ℕ, ◌+◌, ◌≤◌, ◌<◌, ◌⊎◌, ◌≢◌, Bool, true, false, IsTrue, List, [], length, take, Ok, Err, IfOk, IfErr, OnOk, OnErr};
+ghost use Rattle.std.specs.Prelude.{◌≡◌, ℕ, ◌<◌, ◌≢◌, true, false, IsTrue, List, [], length, Ok, Err, IfErr, OnOk};
 ghost use Rattle.age_error.specs.declared.io.Error.TheVariants.{LimitExceeded, OutOfMemory};
-ghost use Rattle.age_io.specs.Reading.{Reads, IsQuiet};
-ghost use Rattle.age_io.specs.Filling.{Fills, Consumes};
+ghost use Rattle.age_io.specs.Reading.{IsQuiet};
+ghost use Rattle.age_io.specs.Filling.{Fills};
+ghost use Rattle.age_io.specs.Calls.{ReadsBy};
 ghost use Rattle.age_identity.specs.Limiting.{limited, shown_within};
 ghost use Rattle.age_identity.specs.LimitLemmas.{spent_within, well_within, stands_within, bytes_within, short_within, place_fits_within};
 
@@ -44,12 +45,12 @@ impl<R: Read> LimitedReader<R> {
     fn read_past(&mut self) -> Result<usize, Error>
         requires within { self.old.past ≡ false }
         requires limit { self.old.left ≡ 0 }
-        ensures reads { (buf : List ℕ) → let reader = ⟦<LimitedReader<R> as Read>⟧ in
-            Reads reader.tells reader.steady reader.content reader.place reader.rest reader.faults reader.refuses self.old self.new buf result }
+        ensures reads { (buf : List ℕ) → ReadsBy ⟦<LimitedReader<R> as Read>⟧ self.old self.new buf result }
         ensures limits { Limits R.refuses (λ n. n) self.old self.new result }
         ensures exact { IsTrue (R.tells (inner_of self.old)) → 0 < length (R.rest (inner_of self.old)).bytes → IfErr result (λ e. e ≢ OutOfMemory →
             IsQuiet (R.faults (inner_of self.old)) (R.faults (inner_of self.new)) → e ≡ LimitExceeded) }
-        ensures inner { (buf : List ℕ) → is_past self.new ≡ false → ReadsWithin ⟦<R as Read>⟧ R.refuses (inner_of self.old) (inner_of self.new) buf result }
+        ensures inner { (buf : List ℕ) → is_past self.new ≡ false
+            → ReadsWithin ⟦<R as Read>⟧ R.refuses (inner_of self.old) (inner_of self.new) buf result }
         ensures meets { is_past self.new ≡ true → Meets ⟦<R as Read>⟧ self.old self.new result }
     {
         let mut probe = [0u8; 1];
@@ -101,8 +102,7 @@ impl<R: Read> Read for LimitedReader<R> {
     /// A byte past the limit is `LimitExceeded`, also for every later read and into an empty buffer. Any other refusal is
     /// that of the inner reader. An empty buffer changes nothing.
     fn read(&mut self, buf: &mut [u8]) -> Result<usize, Error>
-        ensures reads { let reader = ⟦<LimitedReader<R> as Read>⟧ in
-            Reads reader.tells reader.steady reader.content reader.place reader.rest reader.faults reader.refuses self.old self.new buf.new result }
+        ensures reads { ReadsBy ⟦<LimitedReader<R> as Read>⟧ self.old self.new buf.new result }
         ensures limits { Limits R.refuses (λ n. n) self.old self.new result }
         ensures empty { is_past self.old ≡ false → length buf.old ≡ 0 → (result ≡ Ok 0) × (self.new ≡ self.old) }
         ensures exact { IsTrue (R.tells (inner_of self.old)) → 0 < length (R.rest (inner_of self.old)).bytes → IfErr result (λ e. e ≢ OutOfMemory →

@@ -1,6 +1,6 @@
 -- Facts on what a writer appended, by the laws of `Write`.
 use Rattle.std.specs.Prelude.{IfErr, IsErrAnd}
-use Rattle.std.proofs.Common.{◌≡◌, ℕ, ◌+◌, ◌≤◌, ◌<◌, Bool, IsTrue, List, [], ◌++◌, length, take, drop, subst, ◌∙◌, arith, append-nil, OnErr, Result, Ok, Err, inl}
+use Rattle.std.proofs.Common.{◌≡◌, ◌≢◌, ℕ, ◌+◌, ◌≤◌, ◌<◌, Bool, true, false, IsTrue, List, [], ◌++◌, length, take, drop, subst, sym, ◌∙◌, arith, append-nil, OnErr, Result, Ok, Err, inl}
 use Rattle.std.proofs.lemmas.Grind.{common_steps}
 use Rattle.std.proofs.lemmas.List.{drop-take, take-append-drop, take-take}
 use Rattle.age_error.specs.Refusals.{IsDevice, IsInterruption}
@@ -8,7 +8,7 @@ use Rattle.age_error.specs.declared.io.Error.{Error}
 use Rattle.age_error.specs.declared.io.Error.TheVariants.{WriteZero, Device}
 use Rattle.age_error.specs.declared.io.ErrorKind.TheVariants.{Interrupted}
 use Rattle.age_io.specs.declared.traits.Write.{Ghosts}
-use Rattle.age_io.specs.Writing.{Narrows, Retried, Writes, Flushes}
+use Rattle.age_io.specs.Writing.{Narrows, Retried, Writes, WritesAll, Flushes}
 use Rattle.age_io.specs.WritingLemmas.{narrows-now, narrows-both, retried-narrows}
 use Rattle.age_io.proofs.Retrying.{rose-by, interrupted-by, interruption-why}
 
@@ -77,7 +77,8 @@ module _ {S : Type 0} (tells : S → Bool) (faults : S → ℕ) (refuses : S →
     narrows = tt;
     interrupted = λ is. absurd (patient is);
     takes_front = λ told. tt;
-    takes_part = λ told. let (n, most, out) = w.takes_part (u.same_tells ∙ told) in (n, most, joins old mid new [] (take n bytes) (u.nothing told) out);
+    takes_part = λ told. let (n, most, out) = w.takes_part (u.same_tells ∙ told) in
+        (n, most, joins old mid new [] (take n bytes) (u.nothing told) out);
     takes_nothing = λ told is. absurd (patient is);
   }
 
@@ -132,15 +133,51 @@ pub record InterruptedWrites {W : Type 0} (write : Ghosts W) (size : ℕ) (old n
   pub rose : 0 < calls → write.faults old < write.faults new
   pub worn : 0 < calls → write.refuses old size (Device Interrupted)
 
-pub interrupted-more : {W A : Type 0} (write : Ghosts W) (joins : (a b c : W) (x y : List ℕ) → write.appended a x b → write.appended b y c → write.appended a (x ++ y) c)
+pub interrupted-more : {W A : Type 0} (write : Ghosts W)
+    (joins : (a b c : W) (x y : List ℕ) → write.appended a x b → write.appended b y c → write.appended a (x ++ y) c)
     (size : ℕ) (old mid new : W) (calls : ℕ) (r : Result A Error) → InterruptedWrites write size old mid calls → IsErrAnd r IsInterruption →
     write.tells new ≡ write.tells mid → write.faults mid ≤ write.faults new → IfErr r (λ e. IsDevice e → write.faults mid < write.faults new) →
-    IfErr r (write.refuses mid size) → IfErr r (λ e. IsInterruption e → Narrows write.refuses mid 0 new) → (IsTrue (write.tells mid) → write.appended mid [] new) →
+    IfErr r (write.refuses mid size) → IfErr r (λ e. IsInterruption e → Narrows write.refuses mid 0 new)
+    → (IsTrue (write.tells mid) → write.appended mid [] new) →
     InterruptedWrites write size old new (calls + 1)
 interrupted-more write joins size old mid new calls r before is same_tells more device why narrows none =
     let rose : write.faults mid < write.faults new = rose-by r is device in
     record {
-      untouched = untouched-more write.tells write.faults write.refuses write.appended joins old mid new before.untouched same_tells more (interrupted-by r is narrows) none;
+      untouched = untouched-more write.tells write.faults write.refuses write.appended joins old mid new before.untouched same_tells more
+          (interrupted-by r is narrows) none;
       rose = λ _. omega (arith, before.untouched.no_fewer_faults, rose);
       worn = λ _. narrows-now write.refuses old mid before.untouched.narrows size _ (interruption-why (write.refuses mid size) r is why);
     }
+
+-- A piece that is the front went by an exchange, or was refused there.
+module _ {W : Type 0} (write : Ghosts W) (old new : W) (front piece : List ℕ) (same : front ≡ piece) where
+  abbrev Goes : {T : Type 0} → List ℕ → Result T Error → Type 0
+  Goes bytes result = WritesAll write.tells write.faults (Retried write.refuses) write.appended old new bytes result
+
+  pub exchanged : {T : Type 0} {x : T} (b : Bool) → b ≡ true → (◌≢◌ {A = Result Bool Error} (Ok b) (Ok false) → Goes {T = Bool} piece (Ok b))
+      → Goes {T = T} front (Ok x)
+  exchanged {T} {x} b took goes =
+      let whole = goes (λ none. let is : ◌≡◌ {A = Result Bool Error} (Ok b) (Ok false) = none in cc) in
+      subst (λ (bytes : List ℕ). Goes {T = T} bytes (Ok x)) (sym same) (record {
+        same_tells = whole.same_tells;
+        no_fewer_faults = whole.no_fewer_faults;
+        device = tt;
+        why = tt;
+        narrows = whole.narrows;
+        takes_all = whole.takes_all;
+        takes_front = λ told. tt;
+      })
+
+  pub unexchanged : {T : Type 0} (e : Error) → (◌≢◌ {A = Result Bool Error} (Err e) (Ok false) → Goes {T = Bool} piece (Err e))
+      → Goes {T = T} front (Err e)
+  unexchanged {T} e goes =
+      let refused = goes (λ none. let is : ◌≡◌ {A = Result Bool Error} (Err e) (Ok false) = none in cc) in
+      subst (λ (bytes : List ℕ). Goes {T = T} bytes (Err e)) (sym same) (record {
+        same_tells = refused.same_tells;
+        no_fewer_faults = refused.no_fewer_faults;
+        device = refused.device;
+        why = refused.why;
+        narrows = tt;
+        takes_all = λ told. tt;
+        takes_front = refused.takes_front;
+      })

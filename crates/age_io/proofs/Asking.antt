@@ -35,7 +35,8 @@ stands-failed wanted place position (Err x) e is failed = λ other. absurd (othe
 
 module _ {S : Type 0} (faults : S → ℕ) (old new : S) (to : SeekFrom) where
   -- what a seek answers, of which only faults and reasons are known
-  seeks-untold : (r : Result ℕ Error) → faults old ≤ faults new → IfErr r (λ e. IsDevice e → faults old < faults new) → OnOk r (faults new < most_faults) →
+  seeks-untold : (r : Result ℕ Error) → faults old ≤ faults new → IfErr r (λ e. IsDevice e → faults old < faults new)
+      → OnOk r (faults new < most_faults) →
       IfErr r (λ e. IsSeekRefusal seek_refuses e ⊎ IsReadRefusal e) →
       Seeks (λ _. false) (λ _. false) (λ _. nothing) (λ _. 0) (λ _. nothing) faults (λ _. IsReadRefusal) seek_refuses old new to r
   seeks-untold r more device unspent why = record {
@@ -113,7 +114,8 @@ module _ (to : SeekFrom) (place here len : ℕ) (bytes : List ℕ) (before at be
       (wanted (Err e) is, moved.1 ∙ ap Some (moved.0 ∙ told.0))
 
   -- it stands at the target, unless it fails
-  pub stands-there : (faults more target : ℕ) (r : Result ℕ Error) → Ok target ≡ sought_below to here len → SeekMoves behind after left (Start target) r →
+  pub stands-there : (faults more target : ℕ) (r : Result ℕ Error) → Ok target ≡ sought_below to here len
+      → SeekMoves behind after left (Start target) r →
       CountsFaults faults more r → StandsAfter (sought_below to place (length bytes)) place after r
   stands-there faults more target (Ok n) is third counts =
       let moved = subst (λ p. SeekMoves {E = Error} p after left (Start target) (Ok n)) told.2 third in

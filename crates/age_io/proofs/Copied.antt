@@ -26,7 +26,11 @@ module _ {S : Type 0} (read : Ghosts S) {W : Type 0} (writer_tells : W → Bool)
     pub out : IsTrue (writer_tells before) → appended before front after
 
   pub copied-none : (s : S) (w : W) → appended w [] w → IsCopied s s w w
-  copied-none s w none = record { front = []; gives = gives-none read.tells read.steady read.content read.place read.rest read.faults (TriedAgain read.refuses) s; out = λ told. none }
+  copied-none s w none = record {
+    front = [];
+    gives = gives-none read.tells read.steady read.content read.place read.rest read.faults (TriedAgain read.refuses) s;
+    out = λ told. none;
+  }
 
   -- a beginning was appended
   pub front-copied : (old new : S) (before after : W) → IsCopied old new before after → IsTrue (read.tells old) → IsTrue (writer_tells before) →
@@ -85,7 +89,8 @@ module _ {S : Type 0} (read : Ghosts S) {W : Type 0} (writer_tells : W → Bool)
 
     -- where it is left by a read that refused
     pub left-by-read : (front : List ℕ) (old between new : S) (before after : W) (buf : List ℕ) (e : Error) → Holds front →
-        GivesInAll read.tells read.steady read.content read.place read.rest read.faults (TriedAgain read.refuses) old between front → (IsTrue (writer_tells before) → appended before front after) →
+        GivesInAll read.tells read.steady read.content read.place read.rest read.faults (TriedAgain read.refuses) old between front
+        → (IsTrue (writer_tells before) → appended before front after) →
         Reads read.tells read.steady read.content read.place read.rest read.faults (TriedAgain read.refuses) between new buf (Err e) →
         CopiesFront read writer_tells appended Holds old new before after
     left-by-read front old between new before after buf e holds gives out r = record {
@@ -100,12 +105,14 @@ module _ {S : Type 0} (read : Ghosts S) {W : Type 0} (writer_tells : W → Bool)
     -- where it is left by a write that refused and took a beginning of a further piece
     pub left-by-write : (joins : (a b c : W) (x y : List ℕ) → appended a x b → appended b y c → appended a (x ++ y) c) →
         (front : List ℕ) (old between new : S) (before half after : W) (buf : List ℕ) (n : ℕ) → Holds (front ++ take n buf) →
-        GivesInAll read.tells read.steady read.content read.place read.rest read.faults (TriedAgain read.refuses) old between front → (IsTrue (writer_tells before) → appended before front half) →
+        GivesInAll read.tells read.steady read.content read.place read.rest read.faults (TriedAgain read.refuses) old between front
+        → (IsTrue (writer_tells before) → appended before front half) →
         Reads read.tells read.steady read.content read.place read.rest read.faults (TriedAgain read.refuses) between new buf (Ok n) →
         (IsTrue (writer_tells before) → (taken : ℕ) × (taken ≤ length (take n buf)) × appended half (take taken (take n buf)) after) →
         CopiesFront read writer_tells appended Holds old new before after
     left-by-write joins front old between new before half after buf n holds gives out r wrote =
-        let more = gives-more read.tells read.steady read.content read.place read.rest read.faults (TriedAgain read.refuses) old between new front buf n gives r in
+        let more = gives-more read.tells read.steady read.content read.place read.rest read.faults
+        (TriedAgain read.refuses) old between new front buf n gives r in
         let piece = take n buf in
         record {
           given = front ++ piece;
@@ -125,24 +132,28 @@ module _ {S : Type 0} (read : Ghosts S) {W : Type 0} (writer_tells : W → Bool)
 
   module _ (joins : (a b c : W) (x y : List ℕ) → appended a x b → appended b y c → appended a (x ++ y) c) where
     pub copied-more : (old between new : S) (before half after : W) (buf : List ℕ) (n : ℕ) → IsCopied old between before half →
-        Reads read.tells read.steady read.content read.place read.rest read.faults (TriedAgain read.refuses) between new buf (Ok n) → (IsTrue (writer_tells before) → appended half (take n buf) after) →
+        Reads read.tells read.steady read.content read.place read.rest read.faults (TriedAgain read.refuses) between new buf (Ok n)
+        → (IsTrue (writer_tells before) → appended half (take n buf) after) →
         IsCopied old new before after
     copied-more old between new before half after buf n so_far r out = record {
       front = so_far.front ++ take n buf;
-      gives = gives-more read.tells read.steady read.content read.place read.rest read.faults (TriedAgain read.refuses) old between new so_far.front buf n so_far.gives r;
+      gives = gives-more read.tells read.steady read.content read.place read.rest read.faults
+          (TriedAgain read.refuses) old between new so_far.front buf n so_far.gives r;
       out = λ told. joins before half after so_far.front (take n buf) (so_far.out told) (out told);
     }
 
     -- a beginning of a further piece was appended
     pub front-more : (old between new : S) (before half after : W) (buf : List ℕ) (n taken : ℕ) → IsCopied old between before half →
-        Reads read.tells read.steady read.content read.place read.rest read.faults (TriedAgain read.refuses) between new buf (Ok n) → IsTrue (read.tells old) → IsTrue (writer_tells before) →
+        Reads read.tells read.steady read.content read.place read.rest read.faults (TriedAgain read.refuses) between new buf (Ok n)
+        → IsTrue (read.tells old) → IsTrue (writer_tells before) →
         appended half (take taken (take n buf)) after → AppendsFront appended (read.rest old).bytes before after
     front-more old between new before half after buf n taken so_far r told writer_told out =
         let piece = take n buf in
         record {
           front = so_far.front ++ take taken piece;
           after = drop taken piece ++ (read.rest new).bytes;
-          joined = ((gives-more read.tells read.steady read.content read.place read.rest read.faults (TriedAgain read.refuses) old between new so_far.front buf n so_far.gives r).bytes told).bytes
+          joined = ((gives-more read.tells read.steady read.content read.place read.rest read.faults
+              (TriedAgain read.refuses) old between new so_far.front buf n so_far.gives r).bytes told).bytes
               ∙ ap (λ p. (so_far.front ++ p) ++ (read.rest new).bytes) (sym (take-append-drop taken piece))
               ∙ regroup so_far.front (take taken piece) (drop taken piece) (read.rest new).bytes;
           out = joins before half after so_far.front (take taken piece) (so_far.out writer_told) out;

@@ -51,7 +51,8 @@ Appended-none s xs = record {
   left = inl refl;
 }
 
-module _ {S : Type 0} (tells steady : S → Bool) (content : S → Stretch) (place : S → ℕ) (rest : S → Stretch) (faults : S → ℕ) (refuses : S → Error → Type 0) where
+module _ {S : Type 0} (tells steady : S → Bool) (content : S → Stretch) (place : S → ℕ) (rest : S → Stretch) (faults : S → ℕ)
+    (refuses : S → Error → Type 0) where
   -- no read gave anything yet
   pub gives-none : (s : S) → GivesInAll tells steady content place rest faults refuses s s []
   gives-none s = record {
@@ -66,7 +67,8 @@ module _ {S : Type 0} (tells steady : S → Bool) (content : S → Stretch) (pla
 
   -- a further read
   pub gives-more : (old between new : S) (got buf : List ℕ) (n : ℕ) → GivesInAll tells steady content place rest faults refuses old between got →
-      Reads tells steady content place rest faults refuses between new buf (Ok n) → GivesInAll tells steady content place rest faults refuses old new (got ++ take n buf)
+      Reads tells steady content place rest faults refuses between new buf (Ok n)
+      → GivesInAll tells steady content place rest faults refuses old new (got ++ take n buf)
   gives-more old between new got buf n g r = record {
     same_tells = r.same_tells ∙ g.same_tells;
     same_steady = r.same_steady ∙ g.same_steady;

@@ -46,7 +46,8 @@ module _ {R : Type 0} (read : Ghosts R) where
     keeps-done a b same narrows = record { same = same; device = tt; patient = tt; why = tt; narrows = narrows }
 
     -- a refusal that isn't the device's
-    pub keeps-refused : {T : Type 0} (a b : R) (e : Error) → SameReader read a b → (IsDevice e → ⊥) → may a e → KeepsReader {T = T} read may a b (Err e)
+    pub keeps-refused : {T : Type 0} (a b : R) (e : Error) → SameReader read a b → (IsDevice e → ⊥) → may a e
+        → KeepsReader {T = T} read may a b (Err e)
     keeps-refused a b e same other why =
         record { same = same; device = λ is. absurd (other is); patient = λ is. other (interruption-device e is); why = why; narrows = tt }
 

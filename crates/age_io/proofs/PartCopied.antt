@@ -71,9 +71,11 @@ module _ {S : Type 0} (read : Ghosts S) {W : Type 0} (writer_tells : W → Bool)
   pub part-stands : (count left : ℕ) (old between new : S) (before after : W) (buf : List ℕ) (n : ℕ) → n ≡ 0 →
       IsPartCopied count left old between before after → Reads read.tells read.steady read.content read.place read.rest read.faults
       (TriedAgain read.refuses) between new buf (Ok n) → 0 < length buf →
-      GivesInAll read.tells read.steady read.content read.place read.rest read.faults (TriedAgain read.refuses) old new (take count (read.rest old).bytes)
+      GivesInAll read.tells read.steady read.content read.place read.rest read.faults (TriedAgain read.refuses) old new
+      (take count (read.rest old).bytes)
   part-stands count left old between new before after buf n none so_far r some =
-      let all = gives-more read.tells read.steady read.content read.place read.rest read.faults (TriedAgain read.refuses) old between new so_far.front buf n
+      let all = gives-more read.tells read.steady read.content read.place read.rest read.faults
+      (TriedAgain read.refuses) old between new so_far.front buf n
       so_far.gives r in
       gives-same read.tells read.steady read.content read.place read.rest read.faults (TriedAgain read.refuses) old new (so_far.front ++ take n buf)
       (take count (read.rest old).bytes)
@@ -84,9 +86,11 @@ module _ {S : Type 0} (read : Ghosts S) {W : Type 0} (writer_tells : W → Bool)
 
   -- and so it does where none of the count is left
   pub part-stands-full : (count left : ℕ) (old new : S) (before after : W) → IsPartCopied count left old new before after →
-      left ≡ 0 → GivesInAll read.tells read.steady read.content read.place read.rest read.faults (TriedAgain read.refuses) old new (take count (read.rest old).bytes)
+      left ≡ 0 → GivesInAll read.tells read.steady read.content read.place read.rest read.faults (TriedAgain read.refuses) old new
+      (take count (read.rest old).bytes)
   part-stands-full count left old new before after so_far none =
-      gives-same read.tells read.steady read.content read.place read.rest read.faults (TriedAgain read.refuses) old new so_far.front (take count (read.rest old).bytes)
+      gives-same read.tells read.steady read.content read.place read.rest read.faults (TriedAgain read.refuses) old new so_far.front
+      (take count (read.rest old).bytes)
       (λ told. sym (part_full count left (read.rest old) (read.rest new) so_far.front so_far.budget (so_far.gives.bytes told) none)) so_far.gives
 
   -- a beginning was appended
@@ -101,7 +105,8 @@ module _ {S : Type 0} (read : Ghosts S) {W : Type 0} (writer_tells : W → Bool)
 
   -- where the reader is left by a read that refused
   pub part-unread : (count left : ℕ) (old between new : S) (before after : W) (buf : List ℕ) (e : Error) →
-      IsPartCopied count left old between before after → Reads read.tells read.steady read.content read.place read.rest read.faults (TriedAgain read.refuses) between new buf (Err e) →
+      IsPartCopied count left old between before after
+      → Reads read.tells read.steady read.content read.place read.rest read.faults (TriedAgain read.refuses) between new buf (Err e) →
       CopiesFront read writer_tells appended (λ given. length given ≤ count) old new before after
   part-unread count left old between new before after buf e so_far r =
       left-by-read read writer_tells appended (λ given. length given ≤ count)
@@ -110,12 +115,14 @@ module _ {S : Type 0} (read : Ghosts S) {W : Type 0} (writer_tells : W → Bool)
   module _ (joins : (a b c : W) (x y : List ℕ) → appended a x b → appended b y c → appended a (x ++ y) c) where
     pub part-more : (count left after_it : ℕ) (old between new : S) (before half after : W) (buf : List ℕ) (n : ℕ) →
         IsPartCopied count left old between before half → left ≡ length (take n buf) + after_it →
-        Reads read.tells read.steady read.content read.place read.rest read.faults (TriedAgain read.refuses) between new buf (Ok n) → (IsTrue (writer_tells before) → appended half (take n buf) after) →
+        Reads read.tells read.steady read.content read.place read.rest read.faults (TriedAgain read.refuses) between new buf (Ok n)
+        → (IsTrue (writer_tells before) → appended half (take n buf) after) →
         IsPartCopied count after_it old new before after
     part-more count left after_it old between new before half after buf n so_far size r out = record {
       front = so_far.front ++ take n buf;
       budget = omega (arith, so_far.budget, size, length-append so_far.front (take n buf));
-      gives = gives-more read.tells read.steady read.content read.place read.rest read.faults (TriedAgain read.refuses) old between new so_far.front buf n so_far.gives r;
+      gives = gives-more read.tells read.steady read.content read.place read.rest read.faults
+          (TriedAgain read.refuses) old between new so_far.front buf n so_far.gives r;
       out = λ told. joins before half after so_far.front (take n buf) (so_far.out told) (out told);
     }
 

@@ -1,5 +1,5 @@
 -- Reads along a content.
-use Rattle.std.proofs.Common.{◌≡◌, ℕ, ◌+◌, List, [], ◌++◌, length, take, drop, refl, sym, ◌∙◌, ap, arith, subst, length-append}
+use Rattle.std.proofs.Common.{◌≡◌, ℕ, ◌+◌, List, ◌++◌, length, take, drop, refl, sym, ◌∙◌, ap, arith, subst, length-append}
 use Rattle.std.proofs.lemmas.List.{drop-drop, take_at, drop_at}
 use lib.Seq.{take-add}
 use Rattle.age_io.specs.Stretch.{Stretch, from_place, stretch-ext}
@@ -21,9 +21,6 @@ delivered-at content new place front d =
           (sym (sym (drop-drop (length front) place content.bytes) ∙ ap (drop (length front)) after ∙ drop_at front new.bytes (length front) refl))
           d.end,
     )
-
-pub Reached-none : (content rest : Stretch) (start : ℕ) → rest ≡ from_place start content → Reached content start [] start rest
-Reached-none content rest start e = record { given = refl; moved = omega arith; left = e }
 
 joined-of : (a b x y z : List ℕ) → a ≡ x → b ≡ y → z ≡ x ++ y → a ++ b ≡ z
 joined-of a b x y z p q r = cc

@@ -20,7 +20,8 @@ pub Answered-more : (all : List Op) (i : ℕ) (op : Op) (content : Stretch) (sta
 Answered-more all i op content start answers a place new_place rest new_rest here before replied =
     record {
       so_far =
-          rw (map-append, replied.told, replied.moved, append_assoc) (subst (λ left. map seen answers ++ replies left content.bytes place ≡ replies all content.bytes start) here before.so_far);
+          rw (map-append, replied.told, replied.moved, append_assoc)
+          (subst (λ left. map seen answers ++ replies left content.bytes place ≡ replies all content.bytes start) here before.so_far);
       stands = replied.left;
       leads = rw replied.moved (subst (λ left. place_after_all left content.bytes place ≡ place_after_all all content.bytes start) here before.leads);
     }

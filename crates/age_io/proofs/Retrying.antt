@@ -60,22 +60,17 @@ module _ {S : Type 0} (refuses : S → Error → Type 0) where
   ]
 
   -- of errors of its own none is an interruption
-  pub tried-own : (Own : Error → Type 0) (s : S) (e : Error) → (Own (Device interrupted) → ⊥) → TriedAgain (λ r f. Own f ⊎ TriedAgain refuses r f) s e →
+  pub tried-own : (Own : Error → Type 0) (s : S) (e : Error) → (Own (Device interrupted) → ⊥)
+      → TriedAgain (λ r f. Own f ⊎ TriedAgain refuses r f) s e →
       Own e ⊎ TriedAgain refuses s e
   tried-own Own s e patient h = elim h [
     | inl plain ↦ plain.1
     | inr worn ↦ elim worn.1 [ inl own ↦ absurd (patient own) | inr again ↦ absurd (tried-patient s (Device interrupted) again tt) ]
   ]
 
-  -- who tries again what was tried again changes nothing
-  pub tried-once : (s : S) (e : Error) → TriedAgain (TriedAgain refuses) s e → TriedAgain refuses s e
-  tried-once s e h = elim h [
-    | inl plain ↦ plain.1
-    | inr worn ↦ absurd (tried-patient s (Device interrupted) worn.1 tt)
-  ]
-
 -- what may be refused with may be tried again
-pub tried-more : {S T : Type 0} (first : S → Error → Type 0) (second : T → Error → Type 0) (s : S) (t : T) → ((e : Error) → first s e → second t e) → (e : Error) →
+pub tried-more : {S T : Type 0} (first : S → Error → Type 0) (second : T → Error → Type 0) (s : S) (t : T)
+    → ((e : Error) → first s e → second t e) → (e : Error) →
     TriedAgain first s e → TriedAgain second t e
 tried-more first second s t wider e h = elim h [
   | inl plain ↦ inl (plain.0, wider e plain.1)

@@ -105,7 +105,8 @@ outside-or PastEnd = inl tt
 outside-or _ = inr (λ is. is)
 
 -- a seek refused, and is told with another error where its target was outside the content
-pub keeps-unrefused : {R T : Type 0} (read : Ghosts R) (seek_refuses : Error → Type 0) {to : SeekFrom} (a c : R) (e r : Error) → (IsOutside e → r ≡ Failed) →
+pub keeps-unrefused : {R T : Type 0} (read : Ghosts R) (seek_refuses : Error → Type 0) {to : SeekFrom} (a c : R) (e r : Error)
+    → (IsOutside e → r ≡ Failed) →
     ((IsOutside e → ⊥) → r ≡ e) → (IsInterruption e → ⊥) →
     Seeks read.tells read.steady read.content read.place read.rest read.faults (TriedAgain read.refuses) seek_refuses a c to (Err e) →
     KeepsReader {T = T} read (OrSeek (OrFailed seek_refuses) (TriedAgain read.refuses)) a c (Err r)

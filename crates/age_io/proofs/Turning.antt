@@ -1,15 +1,12 @@
 -- Reads in turn.
-use Rattle.std.proofs.Common.{◌≡◌, ◌∙◌, ℕ, suc, ◌<◌, Bool, IsTrue, List, [], ◌++◌, length, take, Result, Ok, refl, sym, subst}
+use Rattle.std.proofs.Common.{◌≡◌, ◌∙◌, ℕ, suc, ◌<◌, Bool, IsTrue, List, ◌++◌, length, take, Result, Ok, refl, sym, subst}
 use Rattle.age_error.specs.declared.io.Error.{Error}
 use Rattle.age_io.specs.Stretch.{Stretch, IsCleanEnd}
 use Rattle.age_io.specs.Reading.{Reads, ReadsInTurn}
 
-module _ {S : Type 0} (tells steady : S → Bool) (content : S → Stretch) (place : S → ℕ) (rest : S → Stretch) (faults : S → ℕ) (refuses : S → Error → Type 0)
+module _ {S : Type 0} (tells steady : S → Bool) (content : S → Stretch) (place : S → ℕ) (rest : S → Stretch) (faults : S → ℕ)
+    (refuses : S → Error → Type 0)
     (besides : S → S → List ℕ → List ℕ → Result ℕ Error → Type 0) where
-  -- none was made yet
-  pub turns-none : (s : S) → (n : ℕ) × ReadsInTurn tells steady content place rest faults refuses besides n s s []
-  turns-none s = (0, (refl, refl))
-
   -- a further one
   pub turns-more : (old between new : S) (got after room buf : List ℕ) (n : ℕ) →
       ((m : ℕ) × ReadsInTurn tells steady content place rest faults refuses besides m old between got) →
@@ -18,7 +15,8 @@ module _ {S : Type 0} (tells steady : S → Bool) (content : S → Stretch) (pla
   turns-more old between new got after room buf n turns reads own grown =
       (suc turns.0, (between, got, turns.1, record { room = room; buf = buf; count = n; reads = reads; own = own; grown = grown }))
 
-module _ {S : Type 0} (tells steady : S → Bool) (content : S → Stretch) (place : S → ℕ) (rest : S → Stretch) (faults : S → ℕ) (refuses : S → Error → Type 0) where
+module _ {S : Type 0} (tells steady : S → Bool) (content : S → Stretch) (place : S → ℕ) (rest : S → Stretch) (faults : S → ℕ)
+    (refuses : S → Error → Type 0) where
   -- after a read that answered 0 into a room nothing is left but a clean end
   pub clean-after : (old new : S) (buf : List ℕ) → Reads tells steady content place rest faults refuses old new buf (Ok 0) →
       IsTrue (tells old) → 0 < length buf → IsCleanEnd (rest new)

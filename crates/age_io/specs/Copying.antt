@@ -45,7 +45,8 @@ abbrev pub RefusesAll : {W : Type 0} → (W → ℕ → Error → Type 0) → W 
 RefusesAll refuses writer told size e = HandsOn refuses writer e × (told → Retried refuses writer size e)
 
 -- What a reader still had was appended to a writer, all of it, or a beginning of it where the copying was refused.
-pub record CopiesAll {R W T : Type 0} (read : Ghosts R) (write : WriteGhosts W) (old new : R) (before after : W) (result : Result T Error) : Type 0 where
+pub record CopiesAll {R W T : Type 0} (read : Ghosts R) (write : WriteGhosts W) (old new : R) (before after : W)
+    (result : Result T Error) : Type 0 where
   -- what the writer was given
   pub tells : write.tells after ≡ write.tells before
   pub all : IsTrue (read.tells old) → IsTrue (write.tells before) → OnOk result
@@ -67,7 +68,8 @@ pub record CopiesAll {R W T : Type 0} (read : Ghosts R) (write : WriteGhosts W) 
       ⊎ ((e ≡ TooLong) × (IsTrue (read.tells old) → ⊥)))
 
 -- So many bytes of what a reader still had were appended, or all of them where there are fewer; or a beginning of them where the copying was refused.
-pub record CopiesSome {R W T : Type 0} (read : Ghosts R) (write : WriteGhosts W) (count : ℕ) (old new : R) (before after : W) (result : Result T Error) : Type 0 where
+pub record CopiesSome {R W T : Type 0} (read : Ghosts R) (write : WriteGhosts W) (count : ℕ) (old new : R) (before after : W)
+    (result : Result T Error) : Type 0 where
   -- what the writer was given
   pub tells : write.tells after ≡ write.tells before
   pub part : IsTrue (read.tells old) → IsTrue (write.tells before) → OnOk result

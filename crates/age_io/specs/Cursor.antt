@@ -57,7 +57,8 @@ abbrev pub OrFailed : (Error → Type 0) → Error → Type 0
 OrFailed below e = (e ≡ Failed) ⊎ below e
 
 -- What a seek does: a target from 0 to the length is moved to, any other is refused and moves nothing.
-pub record Seeks {S : Type 0} (tells steady : S → Bool) (content : S → Stretch) (place : S → ℕ) (rest : S → Stretch) (faults : S → ℕ) (refuses : S → Error → Type 0)
+pub record Seeks {S : Type 0} (tells steady : S → Bool) (content : S → Stretch) (place : S → ℕ) (rest : S → Stretch) (faults : S → ℕ)
+    (refuses : S → Error → Type 0)
     (seek_refuses : Error → Type 0) (old new : S) (to : SeekFrom) (result : Result ℕ Error) : Type 0 where
   -- of every reader
   pub same_tells : tells new ≡ tells old

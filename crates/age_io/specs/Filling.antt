@@ -14,7 +14,8 @@ pub record IsFront (front : List ℕ) (rest : Stretch) : Type 0 where
 
 -- What `fill_buf` does, once what it showed is let go: the reader stays where it stands, and `consume` may take what
 -- was shown. `besides` is what the reader says of itself.
-pub record Fills {S : Type 0} (tells steady : S → Bool) (content : S → Stretch) (place : S → ℕ) (rest : S → Stretch) (faults : S → ℕ) (refuses : S → Error → Type 0)
+pub record Fills {S : Type 0} (tells steady : S → Bool) (content : S → Stretch) (place : S → ℕ) (rest : S → Stretch) (faults : S → ℕ)
+    (refuses : S → Error → Type 0)
     (shown : S → List ℕ) (besides : S → S → Result (Bor (List ℕ)) Error → Type 0)
     (old new : S) (result : Result (Bor (List ℕ)) Error) : Type 0 where
   -- of every reader
@@ -37,7 +38,8 @@ pub record Fills {S : Type 0} (tells steady : S → Bool) (content : S → Stret
   pub cause : IsTrue (tells old) → IfErr result (λ e. e ≢ OutOfMemory → IsQuiet (faults old) (faults new) → IsFault (rest old))
 
 -- What `consume` does: the first `amount` bytes of what was shown are delivered.
-pub record Consumes {S : Type 0} (tells steady : S → Bool) (content : S → Stretch) (place : S → ℕ) (rest : S → Stretch) (faults : S → ℕ) (refuses : S → Error → Type 0)
+pub record Consumes {S : Type 0} (tells steady : S → Bool) (content : S → Stretch) (place : S → ℕ) (rest : S → Stretch) (faults : S → ℕ)
+    (refuses : S → Error → Type 0)
     (shown : S → List ℕ) (old new : S) (amount : ℕ) : Type 0 where
   -- of every reader
   pub same_tells : tells new ≡ tells old

@@ -11,6 +11,7 @@ pub mod Buffered
 pub mod Failing
 pub mod Cursor
 pub mod Keeping
+pub mod Calls
 pub mod Turns
 pub mod Whole
 pub mod Replies

@@ -38,7 +38,8 @@ abbrev pub TriedAgain : {S : Type 0} → (S → Error → Type 0) → S → Erro
 TriedAgain refuses s e = ((IsInterruption e → ⊥) × refuses s e) ⊎ ((e ≡ Device Other) × refuses s (Device Interrupted))
 
 -- What a read does: at `Ok(n)` the next n bytes stand in front of the buffer.
-pub record Reads {S : Type 0} (tells steady : S → Bool) (content : S → Stretch) (place : S → ℕ) (rest : S → Stretch) (faults : S → ℕ) (refuses : S → Error → Type 0)
+pub record Reads {S : Type 0} (tells steady : S → Bool) (content : S → Stretch) (place : S → ℕ) (rest : S → Stretch) (faults : S → ℕ)
+    (refuses : S → Error → Type 0)
     (old new : S) (buf : List ℕ) (result : Result ℕ Error) : Type 0 where
   -- of every reader
   pub count : IfOk result (λ n. n ≤ length buf)
@@ -61,7 +62,8 @@ pub record Reads {S : Type 0} (tells steady : S → Bool) (content : S → Stret
   pub cause : IsTrue (tells old) → IfErr result (λ e. e ≢ OutOfMemory → IsQuiet (faults old) (faults new) → IsFault (rest old))
 
 -- A read answered some bytes, which were put after those before, and said of itself what it promises besides.
-pub record ReadsOn {S : Type 0} (tells steady : S → Bool) (content : S → Stretch) (place : S → ℕ) (rest : S → Stretch) (faults : S → ℕ) (refuses : S → Error → Type 0)
+pub record ReadsOn {S : Type 0} (tells steady : S → Bool) (content : S → Stretch) (place : S → ℕ) (rest : S → Stretch) (faults : S → ℕ)
+    (refuses : S → Error → Type 0)
     (besides : S → S → List ℕ → List ℕ → Result ℕ Error → Type 0) (old new : S) (before after : List ℕ) : Type 0 where
   pub room : List ℕ
   pub buf : List ℕ
@@ -79,7 +81,8 @@ ReadsInTurn {S} tells steady content place rest faults refuses besides (suc n) o
     × ReadsOn tells steady content place rest faults refuses besides between new before got
 
 -- What several reads do that give these bytes in all.
-pub record GivesInAll {S : Type 0} (tells steady : S → Bool) (content : S → Stretch) (place : S → ℕ) (rest : S → Stretch) (faults : S → ℕ) (refuses : S → Error → Type 0)
+pub record GivesInAll {S : Type 0} (tells steady : S → Bool) (content : S → Stretch) (place : S → ℕ) (rest : S → Stretch) (faults : S → ℕ)
+    (refuses : S → Error → Type 0)
     (old new : S) (got : List ℕ) : Type 0 where
   -- of every reader
   pub same_tells : tells new ≡ tells old

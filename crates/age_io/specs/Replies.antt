@@ -70,7 +70,8 @@ abbrev pub IsNoWant : Answer → Type 0
 IsNoWant (Fault got error) = error ≢ OutOfMemory
 IsNoWant _ = Unit {0}
 
-module _ {S : Type 0} (tells steady : S → Bool) (content : S → Stretch) (place : S → ℕ) (rest : S → Stretch) (faults : S → ℕ) (refuses : S → Error → Type 0)
+module _ {S : Type 0} (tells steady : S → Bool) (content : S → Stretch) (place : S → ℕ) (rest : S → Stretch) (faults : S → ℕ)
+    (refuses : S → Error → Type 0)
     (read_besides : S → S → List ℕ → List ℕ → Result ℕ Error → Type 0) where
   module _ (seek_refuses : Error → Type 0) (seek_besides : S → S → SeekFrom → Result ℕ Error → Type 0) where
     -- A seek answered this, and said of itself what it promises besides.

@@ -5,7 +5,8 @@ use Rattle.age_io.specs.Reading.{Reads, ReadsInTurn, GivesInAll, TriedAgain}
 use Rattle.age_error.specs.declared.io.Error.{Error}
 use Rattle.age_io.specs.declared.traits.Read.{Ghosts}
 
-module _ {S : Type 0} (tells steady : S → Bool) (content : S → Stretch) (place : S → ℕ) (rest : S → Stretch) (faults : S → ℕ) (refuses : S → Error → Type 0)
+module _ {S : Type 0} (tells steady : S → Bool) (content : S → Stretch) (place : S → ℕ) (rest : S → Stretch) (faults : S → ℕ)
+    (refuses : S → Error → Type 0)
     (read_besides : S → S → List ℕ → List ℕ → Result ℕ Error → Type 0) where
   -- A read into a room that isn't empty answered 0, and said of itself what it promises besides.
   pub record FindsEnd (old new : S) : Type 0 where
@@ -22,7 +23,8 @@ module _ {S : Type 0} (tells steady : S → Bool) (content : S → Stretch) (pla
     pub gives : GivesInAll tells steady content place rest faults refuses old new got
     pub turns : (n : ℕ) × ReadsInTurn tells steady content place rest faults refuses read_besides n old new got
     pub end : IsTrue (tells old) → length got < wanted → IsCleanEnd (rest new)
-    pub finds : length got < wanted → (between : S) × (n : ℕ) × ReadsInTurn tells steady content place rest faults refuses read_besides n old between got
+    pub finds : length got < wanted → (between : S) × (n : ℕ)
+        × ReadsInTurn tells steady content place rest faults refuses read_besides n old between got
         × FindsEnd between new
 
   -- They were asked for so many bytes, and gave fewer, since the next read refused with this error. Nothing was tried again.
@@ -44,4 +46,5 @@ GivesTried read wanted got old new =
 -- and so they were refused
 abbrev pub RefusesTried : {R : Type 0} → Ghosts R → ℕ → List ℕ → Error → R → R → Type 0
 RefusesTried read wanted got e old new =
-    GivesThenRefuses read.tells read.steady read.content read.place read.rest read.faults (TriedAgain read.refuses) (λ _ _ _ _ _. ⊤) wanted got e old new
+    GivesThenRefuses read.tells read.steady read.content read.place read.rest read.faults (TriedAgain read.refuses)
+    (λ _ _ _ _ _. ⊤) wanted got e old new

@@ -72,7 +72,8 @@ pub record WritesAll {S T : Type 0} (tells : S → Bool) (faults : S → ℕ) (r
   pub takes_front : IsTrue (tells old) → OnErr result ((n : ℕ) × (n ≤ length bytes) × appended old (take n bytes) new)
 
 -- What stays of a writer over a step, whatever bytes it is given; a refusal is one that it might make before the step.
-pub record KeepsWriter {S T : Type 0} (tells : S → Bool) (faults : S → ℕ) (may : S → Error → Type 0) (old new : S) (result : Result T Error) : Type 0 where
+pub record KeepsWriter {S T : Type 0} (tells : S → Bool) (faults : S → ℕ) (may : S → Error → Type 0) (old new : S)
+    (result : Result T Error) : Type 0 where
   pub same_tells : tells new ≡ tells old
   pub no_fewer_faults : faults old ≤ faults new
   pub device : IfErr result (λ e. IsDevice e → faults old < faults new)

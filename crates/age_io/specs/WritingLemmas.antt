@@ -105,7 +105,8 @@ module _ {S : Type 0} (tells : S → Bool) (faults : S → ℕ) where
     }
 
     -- the same step, told of another value
-    pub keeps-well : {T U : Type 0} (old new : S) (x : T) (y : U) → KeepsWriter tells faults may old new (Ok x) → KeepsWriter tells faults may old new (Ok y)
+    pub keeps-well : {T U : Type 0} (old new : S) (x : T) (y : U) → KeepsWriter tells faults may old new (Ok x)
+        → KeepsWriter tells faults may old new (Ok y)
     keeps-well old new x y k = record {
       same_tells = k.same_tells;
       no_fewer_faults = k.no_fewer_faults;

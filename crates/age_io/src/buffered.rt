@@ -6,14 +6,14 @@ ghost use Rattle.age_error.specs.Refusals.{IsInterruption};
 ghost use Rattle.age_error.specs.declared.io.Error.{Error as Failure};
 ghost use Rattle.age_error.specs.declared.io.Error.TheVariants.{OutOfMemory};
 ghost use Rattle.age_io.specs.Stretch.{IsCleanEnd, IsFault, from_place};
-ghost use Rattle.age_io.specs.Reading.{Reads, IsQuiet, Delivers, TriedAgain, most_faults};
+ghost use Rattle.age_io.specs.Reading.{IsQuiet, Delivers, TriedAgain, most_faults};
 ghost use Rattle.age_io.specs.Keeping.{KeepsReader, OrSeek};
 ghost use Rattle.age_io.specs.Failing.{FailsForGood};
-ghost use Rattle.age_io.specs.Filling.{Consumes};
-ghost use Rattle.age_io.specs.Cursor.{Seeks, IsOutside, OrFailed};
+ghost use Rattle.age_io.specs.Cursor.{IsOutside, OrFailed};
 ghost use Rattle.age_io.specs.CursorLemmas.{or_failed_no_device};
 ghost use Rattle.age_io.specs.Buffering.{held, rest_behind};
 ghost use Rattle.age_io.specs.BehindLemmas.{stands_behind, spent_behind};
+ghost use Rattle.age_io.specs.Calls.{ConsumesBy, ReadsBy, SeeksBy};
 
 use crate::bufread::BufRead;
 use crate::retry::{read_retrying, seek_retrying};
@@ -90,8 +90,7 @@ impl<R: Read> Read for BufReader<R> {
     /// that the answer is `Device(Other)`. A refusal is that of the inner reader, and leaves this one failed; what `buf`
     /// holds then isn't said. A failed reader answers `Failed`, also into an empty buffer.
     fn read(&mut self, buf: &mut [u8]) -> Result<usize, Error>
-        ensures reads { let reader = ⟦<BufReader<R> as Read>⟧ in
-            Reads reader.tells reader.steady reader.content reader.place reader.rest reader.faults reader.refuses self.old self.new buf.new result }
+        ensures reads { ReadsBy ⟦<BufReader<R> as Read>⟧ self.old self.new buf.new result }
         ensures own { FailsForGood (has_failed self.old) (has_failed self.new) result }
         ensures still { IsTrue (has_failed self.old) → self.new ≡ self.old }
         ensures empty { has_failed self.old ≡ false → length buf.old ≡ 0 → (result ≡ Ok 0) × (self.new ≡ self.old) }
@@ -158,8 +157,7 @@ impl<R: Read> BufReader<R> {
         requires good { self.old.failed ≡ false }
         requires empty { self.old.given ≡ self.old.filled }
         requires some { 0 < length buf.old }
-        ensures reads { let reader = ⟦<BufReader<R> as Read>⟧ in
-            Reads reader.tells reader.steady reader.content reader.place reader.rest reader.faults reader.refuses self.old self.new buf.new result }
+        ensures reads { ReadsBy ⟦<BufReader<R> as Read>⟧ self.old self.new buf.new result }
         ensures own { FailsForGood (has_failed self.old) (has_failed self.new) result }
     {
         self.failed = true;
@@ -251,8 +249,7 @@ impl<R: Read> BufRead for BufReader<R> {
     /// Drops the first `amount` bytes of what is held. It neither fails nor makes good again.
     fn consume(&mut self, amount: usize)
         requires { amount ≤ length (shown_of self.old) }
-        ensures consumes { let reader = ⟦<BufReader<R> as Read>⟧ in
-            Consumes reader.tells reader.steady reader.content reader.place reader.rest reader.faults reader.refuses (λ r. shown_of r) self.old self.new amount }
+        ensures consumes { ConsumesBy ⟦<BufReader<R> as Read>⟧ (λ r. shown_of r) self.old self.new amount }
         ensures failed { has_failed self.new ≡ has_failed self.old }
     {
         self.given += amount;
@@ -307,8 +304,7 @@ impl<R: Seek> Seek for BufReader<R> {
     /// A success makes a failed reader good again. A refusal with `BeforeStart` or `PastEnd` leaves it failed or good, as
     /// it was; any other leaves it failed.
     fn seek(&mut self, to: SeekFrom) -> Result<u64, Error>
-        ensures seeks { let reader = ⟦<BufReader<R> as Read>⟧ in
-            Seeks reader.tells reader.steady reader.content reader.place reader.rest reader.faults reader.refuses (OrFailed R.seek_refuses) self.old self.new to result }
+        ensures seeks { SeeksBy ⟦<BufReader<R> as Read>⟧ (OrFailed R.seek_refuses) self.old self.new to result }
         ensures patient { IfErr result (λ e. IsInterruption e → ⊥) }
         ensures good { OnOk result (has_failed self.new ≡ false) }
         ensures unmoved { IfErr result (λ e. IsOutside e → has_failed self.new ≡ has_failed self.old) }

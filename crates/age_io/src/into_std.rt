@@ -5,9 +5,8 @@ ghost use Rattle.std.specs.Io.{ReadsAtMost, WritesAtMost};
 ghost use Rattle.std.specs.Io.Seek.{SeekMoves};
 ghost use Rattle.std.specs.Io.KnownBytes.{ReadConsumes, WriteAppends, Keeps};
 ghost use Rattle.age_error.specs.Refusals.{kind_of};
-ghost use Rattle.age_io.specs.Reading.{Reads};
-ghost use Rattle.age_io.specs.Cursor.{Seeks};
-ghost use Rattle.age_io.specs.Writing.{Writes, Flushes};
+ghost use Rattle.age_io.specs.Calls.{ReadsBy, SeeksBy, WritesBy};
+ghost use Rattle.age_io.specs.Writing.{Flushes};
 ghost use Rattle.age_io.specs.Standard.{Tells, kind_into, place_into};
 
 use crate::seeking::Seek;
@@ -111,7 +110,7 @@ impl<T: Read> io::Read for IntoStd<T> {
     fn read(&mut self, buf: &mut [u8]) -> io::Result<usize>
         ensures bound { ReadsAtMost result buf.new }
         ensures bytes { ReadConsumes None None result buf.new }
-        ensures reads { Tells (Reads T.tells T.steady T.content T.place T.rest T.faults T.refuses (wrapped_of self.old) (wrapped_of self.new) buf.new) result }
+        ensures reads { Tells (ReadsBy ⟦<T as Read>⟧ (wrapped_of self.old) (wrapped_of self.new) buf.new) result }
     {
         match self.inner.read(buf) {
             Ok(count) => Ok(count),
@@ -128,7 +127,7 @@ impl<T: Seek> io::Seek for IntoStd<T> {
     fn seek(&mut self, to: io::SeekFrom) -> io::Result<u64>
         ensures moves { SeekMoves None None None to result }
         ensures bytes { Keeps None None }
-        ensures seeks { Tells (Seeks T.tells T.steady T.content T.place T.rest T.faults T.refuses T.seek_refuses (wrapped_of self.old) (wrapped_of self.new) (place_into to)) result }
+        ensures seeks { Tells (SeeksBy ⟦<T as Read>⟧ T.seek_refuses (wrapped_of self.old) (wrapped_of self.new) (place_into to)) result }
     {
         match self.inner.seek(place_of(to)) {
             Ok(place) => Ok(place),
@@ -144,7 +143,7 @@ impl<T: Write> io::Write for IntoStd<T> {
     fn write(&mut self, buf: &[u8]) -> io::Result<usize>
         ensures bound { WritesAtMost result buf.now }
         ensures bytes { WriteAppends None None result buf.now }
-        ensures writes { Tells (λ answer. Writes T.tells T.faults T.refuses T.appended (wrapped_of self.old) (wrapped_of self.new) buf.now answer
+        ensures writes { Tells (λ answer. WritesBy ⟦<T as Write>⟧ (wrapped_of self.old) (wrapped_of self.new) buf.now answer
             × T.write_besides (wrapped_of self.old) (wrapped_of self.new) buf.now answer) result }
     {
         match self.inner.write(buf) {

@@ -5,10 +5,9 @@ ghost use Rattle.std.proofs.lemmas.Grind.{common_steps};
 ghost use Rattle.age_error.specs.Bytes.{AreBytes};
 ghost use Rattle.age_error.specs.declared.io.Error.TheVariants.{OutOfMemory};
 ghost use Rattle.age_io.specs.Stretch.{whole, from_place};
-ghost use Rattle.age_io.specs.Reading.{Reads};
 ghost use Rattle.age_io.specs.Cursor;
-ghost use Rattle.age_io.specs.Cursor.{Seeks};
-ghost use Rattle.age_io.specs.Writing.{Writes, Flushes};
+ghost use Rattle.age_io.specs.Writing.{Flushes};
+ghost use Rattle.age_io.specs.Calls.{ReadsBy, SeeksBy, WritesBy};
 
 use crate::bufread::BufRead;
 use crate::seeking::Seek;
@@ -89,8 +88,7 @@ impl<'a> Read for Bytes<'a> {
     /// Gives as many bytes as the buffer takes and the rest has, and answers how many. It never refuses, and leaves
     /// the buffer behind them as it was.
     fn read(&mut self, buf: &mut [u8]) -> Result<usize, Error>
-        ensures reads { let reader = ⟦<Bytes<'a> as Read>⟧ in
-            Reads reader.tells reader.steady reader.content reader.place reader.rest reader.faults reader.refuses self.old self.new buf.new result }
+        ensures reads { ReadsBy ⟦<Bytes<'a> as Read>⟧ self.old self.new buf.new result }
         ensures all { result ≡ Ok (min (length buf.old) (length (⟦<Bytes<'a> as Read>⟧.rest self.old).bytes)) }
         ensures behind { IfOk result (λ n. drop n buf.new ≡ drop n buf.old) }
     {
@@ -128,8 +126,7 @@ impl<'a> Seek for Bytes<'a> {
     /// Moves to a target from 0 to the slice's length. It refuses with `BeforeStart` and `PastEnd` alone, and changes
     /// nothing then.
     fn seek(&mut self, to: SeekFrom) -> Result<u64, Error>
-        ensures seeks { let reader = ⟦<Bytes<'a> as Read>⟧ in
-            Seeks reader.tells reader.steady reader.content reader.place reader.rest reader.faults reader.refuses (λ _. ⊥) self.old self.new to result }
+        ensures seeks { SeeksBy ⟦<Bytes<'a> as Read>⟧ (λ _. ⊥) self.old self.new to result }
         ensures all { result ≡ Cursor.sought to (place_of self.old) (length (bytes_of self.old)) }
         ensures refuses { OnErr result (self.new ≡ self.old) }
     {
@@ -163,8 +160,7 @@ impl Write for Vec<u8> {
     /// Appends all bytes and answers their count. Where the list can't grow it answers `OutOfMemory` and has appended
     /// nothing; it refuses with nothing else, and may be called again.
     fn write(&mut self, bytes: &[u8]) -> Result<usize, Error>
-        ensures writes { let writer = ⟦<Vec<u8> as Write>⟧ in
-            Writes writer.tells writer.faults writer.refuses writer.appended self.old self.new bytes.now result }
+        ensures writes { WritesBy ⟦<Vec<u8> as Write>⟧ self.old self.new bytes.now result }
         ensures all { IfOk result (λ n. n ≡ length bytes.now) }
         ensures memory { IfErr result (λ e. e ≡ OutOfMemory) }
         ensures nothing { OnErr result (self.new.items ≡ self.old.items) }

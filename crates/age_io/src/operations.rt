@@ -3,7 +3,8 @@ ghost use Rattle.std.specs.Prelude.{◌≡◌, ◌-◌, ◌<◌, IsTrue, length,
 ghost use Rattle.age_io.specs.Stretch.{from_place};
 ghost use Rattle.age_io.specs.Reading.{IsQuiet};
 ghost use Rattle.age_io.specs.Keeping.{SameReader};
-ghost use Rattle.age_io.specs.Replies.{seen, replies, Replied, place_after_all, IsNoWant, IsDeviceFault, CameOf, CameOfAll};
+ghost use Rattle.age_io.specs.Replies.{seen, replies, Replied, place_after_all, IsNoWant, IsDeviceFault};
+ghost use Rattle.age_io.specs.Calls.{AnswersBy, RunsBy};
 
 use crate::seeking::Seek;
 use crate::traits::Read;
@@ -48,8 +49,7 @@ pub enum Answer {
 pub fn run<R: Seek>(alloc: Global, reader: &mut R, ops: &[Op]) -> Result<Vec<Answer>, AllocError>
     ensures keeps { SameReader ⟦<R as Read>⟧ reader.old reader.new }
     ensures count { IfOk result (λ answers. length answers.items ≡ length ops.now) }
-    ensures each { IfOk result (λ answers.
-        CameOfAll R.tells R.steady R.content R.place R.rest R.faults R.refuses R.read_besides R.seek_refuses R.seek_besides ops.now answers.items reader.old reader.new) }
+    ensures each { IfOk result (λ answers. RunsBy ⟦<R as Read>⟧ R.seek_refuses R.seek_besides ops.now answers.items reader.old reader.new) }
     ensures device { R.faults reader.new ≡ R.faults reader.old →
         IfOk result (λ answers. All (λ a. IsDeviceFault a → ⊥) answers.items) }
     ensures cursor { IsTrue (R.tells reader.old) → IsTrue (R.content reader.old).ends_well →
@@ -75,7 +75,7 @@ pub fn run<R: Seek>(alloc: Global, reader: &mut R, ops: &[Op]) -> Result<Vec<Ans
 fn answer_of<R: Seek>(alloc: Global, reader: &mut R, op: Op) -> Result<Answer, AllocError>
     ensures keeps { SameReader ⟦<R as Read>⟧ reader.old reader.new }
     ensures device { R.faults reader.new ≡ R.faults reader.old → IfOk result (λ a. IsDeviceFault a → ⊥) }
-    ensures came { IfOk result (λ a. CameOf R.tells R.steady R.content R.place R.rest R.faults R.refuses R.read_besides R.seek_refuses R.seek_besides op a reader.old reader.new) }
+    ensures came { IfOk result (λ a. AnswersBy ⟦<R as Read>⟧ R.seek_refuses R.seek_besides op a reader.old reader.new) }
     ensures reply { IsTrue (R.tells reader.old) → IsTrue (R.content reader.old).ends_well →
         R.rest reader.old ≡ from_place (R.place reader.old) (R.content reader.old) →
         IsQuiet (R.faults reader.old) (R.faults reader.new) →
@@ -98,7 +98,7 @@ fn answer_of<R: Seek>(alloc: Global, reader: &mut R, op: Op) -> Result<Answer, A
 fn read_up_to<R: Seek>(alloc: Global, reader: &mut R, count: usize) -> Result<Answer, AllocError>
     ensures keeps { SameReader ⟦<R as Read>⟧ reader.old reader.new }
     ensures device { R.faults reader.new ≡ R.faults reader.old → IfOk result (λ a. IsDeviceFault a → ⊥) }
-    ensures came { IfOk result (λ a. CameOf R.tells R.steady R.content R.place R.rest R.faults R.refuses R.read_besides R.seek_refuses R.seek_besides (Op.Read count) a reader.old reader.new) }
+    ensures came { IfOk result (λ a. AnswersBy ⟦<R as Read>⟧ R.seek_refuses R.seek_besides (Op.Read count) a reader.old reader.new) }
     ensures reply { IsTrue (R.tells reader.old) → IsTrue (R.content reader.old).ends_well →
         R.rest reader.old ≡ from_place (R.place reader.old) (R.content reader.old) →
         IsQuiet (R.faults reader.old) (R.faults reader.new) →

@@ -1,9 +1,8 @@
 //! Calls that are made again after an interruption.
 ghost use Rattle.std.specs.Prelude.{◌≡◌, ◌<◌, IsTrue, length, false, IfErr, IsErrAnd};
 ghost use Rattle.age_error.specs.Refusals.{IsInterruption};
-ghost use Rattle.age_io.specs.Cursor.{Seeks};
-ghost use Rattle.age_io.specs.Reading.{Reads, TriedAgain};
-ghost use Rattle.age_io.specs.Writing.{Retried, Writes, Flushes};
+ghost use Rattle.age_io.specs.Writing.{Retried, Flushes};
+ghost use Rattle.age_io.specs.Calls.{ReadsRetried, SeeksRetried, WritesRetried};
 
 use crate::seeking::Seek;
 use crate::traits::{Read, Write};
@@ -43,7 +42,7 @@ macro_rules! retried {
 /// `Device(Interrupted)` (`patient`).
 pub fn read_retrying<R: Read>(reader: &mut R, buf: &mut [u8]) -> Result<usize, Error>
     requires { 0 < length buf.old }
-    ensures reads { Reads R.tells R.steady R.content R.place R.rest R.faults (TriedAgain R.refuses) reader.old reader.new buf.new result }
+    ensures reads { ReadsRetried ⟦<R as Read>⟧ reader.old reader.new buf.new result }
     ensures patient { IfErr result (λ e. IsInterruption e → ⊥) }
 {
     retried!(_try, reader.read(buf))
@@ -55,7 +54,7 @@ pub fn read_retrying<R: Read>(reader: &mut R, buf: &mut [u8]) -> Result<usize, E
 /// All tries together do what one seek may (`seeks`): at `Ok(n)` the reader stands at n, and after a refusal where it
 /// stood. It is never `Device(Interrupted)` (`patient`).
 pub fn seek_retrying<R: Seek>(reader: &mut R, to: SeekFrom) -> Result<u64, Error>
-    ensures seeks { Seeks R.tells R.steady R.content R.place R.rest R.faults (TriedAgain R.refuses) R.seek_refuses reader.old reader.new to result }
+    ensures seeks { SeeksRetried ⟦<R as Read>⟧ R.seek_refuses reader.old reader.new to result }
     ensures patient { IfErr result (λ e. IsInterruption e → ⊥) }
 {
     retried!(_try, reader.seek(to))
@@ -68,7 +67,7 @@ pub fn seek_retrying<R: Seek>(reader: &mut R, to: SeekFrom) -> Result<u64, Error
 /// some of the first, or none. A refusal is one of the writer's, but never `Device(Interrupted)` (`patient`): `Device(Other)`
 /// stands for it, and else comes only from the writer.
 pub fn write_retrying<W: Write>(writer: &mut W, bytes: &[u8]) -> Result<usize, Error>
-    ensures writes { Writes W.tells W.faults (Retried W.refuses) W.appended writer.old writer.new bytes.now result }
+    ensures writes { WritesRetried ⟦<W as Write>⟧ writer.old writer.new bytes.now result }
     ensures patient { IfErr result (λ e. IsInterruption e → ⊥) }
 {
     retried!(_try, writer.write(bytes))

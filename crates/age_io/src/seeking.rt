@@ -25,9 +25,11 @@ pub trait Seek: Read {
     /// A refusal leaves the place. `BeforeStart` says that the target is below 0, and `PastEnd` that it is above the
     /// length; then the rest stays too. On a content that ends well any other refusal comes only where the device
     /// failed in this call or has failed 2^64 - 1 times, or where memory was refused. On any content it is one that
-    /// `seek_refuses` or `refuses` names. `Device(kind)` says that the device failed in this call. After `Device(Interrupted)` the call may be made again.
+    /// `seek_refuses` or `refuses` names. `Device(kind)` says that the device
+    /// failed in this call. After `Device(Interrupted)` the call may be made again.
     fn seek(&mut self, to: SeekFrom) -> Result<u64, Error>
-        ensures seeks { Seeks Self.tells Self.steady Self.content Self.place Self.rest Self.faults Self.refuses Self.seek_refuses self.old self.new to result }
+        ensures seeks { Seeks Self.tells Self.steady Self.content Self.place Self.rest Self.faults Self.refuses Self.seek_refuses
+            self.old self.new to result }
         ensures besides { seek_besides self.old self.new to result };
 }
 

@@ -6,11 +6,11 @@ ghost use Rattle.std.specs.Io.KnownBytes.{ReadConsumes, WriteAppends, Keeps};
 ghost use Rattle.std.proofs.Common.{arith, le_refl, refl};
 ghost use Rattle.age_error.specs.declared.io.Error.TheVariants.{Failed, Device, TooLong};
 ghost use Rattle.age_io.specs.Stretch.{nothing};
-ghost use Rattle.age_io.specs.Reading.{Reads, most_faults};
-ghost use Rattle.age_io.specs.Cursor.{Seeks};
+ghost use Rattle.age_io.specs.Reading.{most_faults};
 ghost use Rattle.age_io.specs.CursorLemmas.{too_long_no_device};
-ghost use Rattle.age_io.specs.Writing.{Writes, Flushes};
+ghost use Rattle.age_io.specs.Writing.{Flushes};
 ghost use Rattle.age_io.specs.Standard.{CountsFaults, CountsOwnFaults, IsNoDevice, IsReadRefusal, IsWriteRefusal, StandsAfter, sought_below, kind_from};
+ghost use Rattle.age_io.specs.Calls.{ReadsBy, SeeksBy, WritesBy};
 
 use crate::seeking::Seek;
 use crate::targets::sought;
@@ -139,8 +139,7 @@ impl<T: io::Read> Read for Std<T> {
     ///
     /// A refusal is `Device(kind)`, or `Failed` once the faults are used up.
     fn read(&mut self, buf: &mut [u8]) -> Result<usize, Error>
-        ensures reads { let reader = ⟦<Std<T> as Read>⟧ in
-            Reads reader.tells reader.steady reader.content reader.place reader.rest reader.faults reader.refuses self.old self.new buf.new result }
+        ensures reads { ReadsBy ⟦<Std<T> as Read>⟧ self.old self.new buf.new result }
         ensures bytes { ReadConsumes (T.remaining (inner_of self.old)) (T.remaining (inner_of self.new)) result buf.new }
         ensures asked { faults_of self.old < most_faults → CountsFaults (faults_of self.old) (faults_of self.new) result }
         ensures spent { ⟦<Std<T> as Read>⟧.faults self.old ≡ most_faults → (result ≡ Err Failed) × (self.new ≡ self.old) }
@@ -193,8 +192,7 @@ impl<T: io::Read + io::Seek> Seek for Std<T> {
     /// `TooLong`; the device then stands where it stood. Any other refusal is `Device(kind)`, after which the device may
     /// stand elsewhere, or `Failed` once the faults are used up.
     fn seek(&mut self, to: SeekFrom) -> Result<u64, Error>
-        ensures seeks { let reader = ⟦<Std<T> as Read>⟧ in
-            Seeks reader.tells reader.steady reader.content reader.place reader.rest reader.faults reader.refuses (λ e. e ≡ TooLong) self.old self.new to result }
+        ensures seeks { SeeksBy ⟦<Std<T> as Read>⟧ (λ e. e ≡ TooLong) self.old self.new to result }
         ensures moves { faults_of self.old < most_faults → (place : ℕ) (bytes : List ℕ) →
             T.stream_position (inner_of self.old) ≡ Some place → T.stream_bytes (inner_of self.old) ≡ Some bytes →
             StandsAfter (sought_below to place (length bytes)) place (T.stream_position (inner_of self.new)) result }
@@ -239,8 +237,7 @@ impl<T: io::Write> Write for Std<T> {
     ///
     /// A refusal is `Device(kind)`, or `Failed` once the faults are used up.
     fn write(&mut self, bytes: &[u8]) -> Result<usize, Error>
-        ensures writes { let writer = ⟦<Std<T> as Write>⟧ in
-            Writes writer.tells writer.faults writer.refuses writer.appended self.old self.new bytes.now result }
+        ensures writes { WritesBy ⟦<Std<T> as Write>⟧ self.old self.new bytes.now result }
         ensures bytes { WriteAppends (T.contents (inner_of self.old)) (T.contents (inner_of self.new)) result bytes.now }
         ensures asked { faults_of self.old < most_faults → CountsFaults (faults_of self.old) (faults_of self.new) result }
         ensures spent { ⟦<Std<T> as Write>⟧.faults self.old ≡ most_faults → (result ≡ Err Failed) × (self.new ≡ self.old) }

@@ -5,7 +5,7 @@ ghost use Rattle.age_error.specs.declared.io.Error.TheVariants.{OutOfMemory, Une
 ghost use Rattle.age_io.specs.Reading.{IsQuiet, Delivers, TookSome, IsShort, most_faults};
 ghost use Rattle.age_io.specs.Keeping.{KeepsReader, OrEarly};
 ghost use Rattle.age_io.specs.Whole.{FillsBuffer, ReadsToEnd};
-ghost use Rattle.age_io.specs.Writing.{Retried, WritesAll};
+ghost use Rattle.age_io.specs.Calls.{WritesAllBy};
 
 use crate::retry::{read_retrying, write_retrying};
 use crate::traits::{Read, Write};
@@ -119,7 +119,7 @@ pub fn room_for(alloc: Global, size: usize) -> Result<Vec<u8>, Error>
 /// Any refusal is one that the writer may make while it is given these bytes, `WriteZero` among them; an interruption is
 /// tried again as in `write_retrying`. A beginning of the bytes was then appended, and how many isn't said.
 pub fn write_all<W: Write>(writer: &mut W, bytes: &[u8]) -> Result<(), Error>
-    ensures writes { WritesAll W.tells W.faults (Retried W.refuses) W.appended writer.old writer.new bytes.now result }
+    ensures writes { WritesAllBy ⟦<W as Write>⟧ writer.old writer.new bytes.now result }
     ensures patient { IfErr result (λ e. IsInterruption e → ⊥) }
 {
     let mut at = 0;
@@ -141,7 +141,7 @@ pub(crate) fn write_front<W: Write>(
     count: usize,
 ) -> Result<(), Error>
     requires { count ≤ length piece.old.items }
-    ensures writes { WritesAll W.tells W.faults (Retried W.refuses) W.appended writer.old writer.new (take count piece.old.items) result }
+    ensures writes { WritesAllBy ⟦<W as Write>⟧ writer.old writer.new (take count piece.old.items) result }
     ensures size { length piece.new.items ≡ length piece.old.items }
 {
     if count == piece.len() {

@@ -11,7 +11,8 @@ use Rattle.std.proofs.lemmas.Fmt.{decimal_is_IsNumeral, decimal_digit, decimal-d
 
 -- a text is the decimal of this factor, or of none
 abbrev pub IsFactorOf : List ℕ → Option ℕ → Type 0
-IsFactorOf text found = MatchOption found ((factor : ℕ) → 1 ≤ factor → factor < 2 ^ 8 → decimal factor ≡ text → ⊥) (λ factor. (1 ≤ factor) × (decimal factor ≡ text))
+IsFactorOf text found = MatchOption found ((factor : ℕ) → 1 ≤ factor → factor < 2 ^ 8 → decimal factor ≡ text → ⊥)
+    (λ factor. (1 ≤ factor) × (decimal factor ≡ text))
 
 -- what a text begins with
 begins_with : (byte : ℕ) (text : List ℕ) → starts_with nat_eq text (byte ∷ []) ≡ true → get_or text 0 0 ≡ byte
@@ -29,8 +30,10 @@ no_factor byte text low begins = λ factor some fits is.
     omega (arith, low, begins_with byte text begins, ap (λ l. get_or l 0 0) is, large)
 
 -- digits that don't begin with 0 are the decimal of their value
-value_is : (text : List ℕ) → AllDigits 10 text → 0 < length text → digits_value 10 text < 2 ^ 8 → get_or text 0 0 ≢ 48 → decimal (digits_value 10 text) ≡ text
-value_is text digits some fits zero = decimal-digits_value (numerals_by_value _ tells_digits) text digits some (λ is. absurd (zero is)) (omega (arith, fits))
+value_is : (text : List ℕ) → AllDigits 10 text → 0 < length text → digits_value 10 text < 2 ^ 8 → get_or text 0 0 ≢ 48
+    → decimal (digits_value 10 text) ≡ text
+value_is text digits some fits zero = decimal-digits_value (numerals_by_value _ tells_digits) text digits some (λ is. absurd (zero is))
+    (omega (arith, fits))
 
 factor_or_none : {E : Type 0} (text : List ℕ) (parsed : Result ℕ E)
     → OkIff parsed (AllDigits 10 text × (0 < length text) × (digits_value 10 text < 2 ^ 8)) (digits_value 10 text) → get_or text 0 0 ≢ 48

@@ -19,9 +19,11 @@ module _ (opened : List ℕ → List ℕ → List ℕ → Option (List ℕ)) (sh
   Passes = IsPassedOver opened shared_of public_of
 
   passes_other : (secret : List ℕ) (s : StanzaValue) → IsTrue (has_other_tag s) → Passes secret s
-  passes_other secret s other answer asked = other_passed HasShare (opened_with opened shared_of public_of secret) (codes "X25519") s answer other asked
+  passes_other secret s other answer asked =
+      other_passed HasShare (opened_with opened shared_of public_of secret) (codes "X25519") s answer other asked
 
-  nothing : (made answer : UnwrapAnswer) → made ≡ None → (answer ≡ made) ⊎ (answer ≡ Some (Err OutOfMemory)) → (answer ≡ None) ⊎ (answer ≡ Some (Err OutOfMemory))
+  nothing : (made answer : UnwrapAnswer) → made ≡ None → (answer ≡ made) ⊎ (answer ≡ Some (Err OutOfMemory))
+      → (answer ≡ None) ⊎ (answer ≡ Some (Err OutOfMemory))
   nothing made answer none (inl is) = inl (is ∙ none)
   nothing made answer none (inr want) = inr want
 
@@ -31,7 +33,8 @@ module _ (opened : List ℕ → List ℕ → List ℕ → Option (List ℕ)) (sh
       (answers_own HasShare (opened_with opened shared_of public_of secret) (codes "X25519") s share answer tag has
       (λ other of_other. one_share share other s has.bytes.bytes has.args of_other) asked)
 
-  module _ (seal_of : List ℕ → List ℕ → List ℕ → List ℕ) (cipher : IsCipher seal_of opened) (agreement : IsAgreement shared_of public_of) (secret : List ℕ)
+  module _ (seal_of : List ℕ → List ℕ → List ℕ → List ℕ) (cipher : IsCipher seal_of opened) (agreement : IsAgreement shared_of public_of)
+      (secret : List ℕ)
       (bytes : AreBytesOf 32 secret) where
     abbrev Wraps : List ℕ → List ℕ → List ℕ → WrapAnswer → List ℕ → Type 0
     Wraps = WrapsFor seal_of shared_of public_of
@@ -47,7 +50,8 @@ module _ (opened : List ℕ → List ℕ → List ℕ → Option (List ℕ)) (sh
 
     pub beside_passed : AnswersBeside Wraps (FirstOf Asks) (Passes secret) (public_of secret) secret
     beside_passed =
-        beside Asks Wraps (Passes secret) (public_of secret) secret (λ s answer after passes asked. unchanged secret after answer asked.1 (passes answer asked.0))
+        beside Asks Wraps (Passes secret) (public_of secret) secret
+        (λ s answer after passes asked. unchanged secret after answer asked.1 (passes answer asked.0))
         opens_first
 
     pub belongs : BelongsTo Wraps (FirstOf Asks) has_other_tag (public_of secret) secret

@@ -32,11 +32,13 @@ one_hyphen_more bytes front before count all is =
 pub between_is : {X : Type 0} (now : X → List ℕ) (prefix front rest : List ℕ) (found : Option X) → prefix ≡ front ++ rest
     → MatchOption found ((before : List ℕ) → rest ≢ before ++ 45 ∷ []) (λ before. rest ≡ now before ++ 45 ∷ [])
     → MatchOption found ((before : List ℕ) → prefix ≢ front ++ before ++ 45 ∷ []) (λ before. prefix ≡ front ++ now before ++ 45 ∷ [])
-between_is now prefix front rest None is none = λ before e. none before (append_cancel_left front rest (before ++ 45 ∷ []) (sym is ∙ e ∙ append_assoc front before (45 ∷ [])))
+between_is now prefix front rest None is none =
+    λ before e. none before (append_cancel_left front rest (before ++ 45 ∷ []) (sym is ∙ e ∙ append_assoc front before (45 ∷ [])))
 between_is now prefix front rest (Some before) is has = is ∙ ap (λ r. front ++ r) has ∙ sym (append_assoc front (now before) (45 ∷ []))
 
 -- what stands there is no name
-pub no_name : (text prefix before front bytes : List ℕ) → IsBech32 text prefix bytes → prefix ≡ identity_front ++ before ++ 45 ∷ [] → IsWithoutHyphens before front
+pub no_name : (text prefix before front bytes : List ℕ) → IsBech32 text prefix bytes → prefix ≡ identity_front ++ before ++ 45 ∷ []
+    → IsWithoutHyphens before front
     → is_name front ≡ false → RefusesIdentity text (codes "invalid plugin name")
 no_name text prefix before front bytes reads is trimmed none =
     inr (inr (inl (before, front, bytes, subst (λ p. IsBech32 text p bytes) is reads, trimmed, none, refl)))
@@ -59,13 +61,22 @@ identity_wants text prefix before front bytes reads is trimmed named =
     inr (inr (inr (
       record { name = lowered front; text = text },
       refl,
-      record { before = before; bytes = bytes; reads = subst (λ p. IsBech32 text p bytes) is reads; front = front; trimmed = trimmed; named = named; lower = refl },
+      record {
+        before = before;
+        bytes = bytes;
+        reads = subst (λ p. IsBech32 text p bytes) is reads;
+        front = front;
+        trimmed = trimmed;
+        named = named;
+        lower = refl;
+      },
       refl,
     )))
 
 -- the key of an identity without bytes: `upper` is read in two ways, from one text
 pub default_key : (name text upper as_text as_bytes trimmed front : List ℕ) → as_text ≡ upper → as_bytes ≡ upper
-    → IsBech32 text (identity_front ++ as_text ++ 45 ∷ []) [] → IsWithoutHyphens as_bytes trimmed → (front ≡ trimmed) × (is_name trimmed ≡ true) → name ≡ lowered front
+    → IsBech32 text (identity_front ++ as_text ++ 45 ∷ []) [] → IsWithoutHyphens as_bytes trimmed → (front ≡ trimmed) × (is_name trimmed ≡ true)
+    → name ≡ lowered front
     → IsPluginIdentity (record { name = name; text = text })
 default_key name text upper as_text as_bytes trimmed front is same reads without named lower = record {
   before = upper;

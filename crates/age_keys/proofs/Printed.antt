@@ -39,5 +39,7 @@ recipient-ascii key =
     let P : ℕ → Type 0 = λ b. b < 128 in
     let values = values_of_bytes recipient_prefix key in
     let symbols : All P (map (symbol_in false) values) =
-    All-map P (symbol_in false) values (All-weaker (λ v. v < 2 ^ 5) (λ v. symbol_in false v < 128) (λ v h. (symbol-is v h).lower_ascii) values (values-fit recipient_prefix key)) in
-    All-append P recipient_prefix (49 ∷ map (symbol_in false) values) prefix-ascii (All-cons P 49 (map (symbol_in false) values) (omega arith) symbols)
+    All-map P (symbol_in false) values (All-weaker (λ v. v < 2 ^ 5) (λ v. symbol_in false v < 128) (λ v h. (symbol-is v h).lower_ascii) values
+    (values-fit recipient_prefix key)) in
+    All-append P recipient_prefix (49 ∷ map (symbol_in false) values) prefix-ascii
+    (All-cons P 49 (map (symbol_in false) values) (omega arith) symbols)

@@ -54,7 +54,8 @@ either_case one other rest bytes same p = record {
 lowered_same : (prefix text other key : List ℕ) → IsKeyText prefix text key → IsBech32 other prefix key → lowered text ≡ lowered other
 lowered_same prefix text other key is b =
     let a = is.reads in
-    let rests : lowered a.rest ≡ lowered b.rest = one_spelling prefix a.rest b.rest key (either_case is.written prefix a.rest key is.same a.payload) b.payload in
+    let rests : lowered a.rest ≡ lowered b.rest =
+    one_spelling prefix a.rest b.rest key (either_case is.written prefix a.rest key is.same a.payload) b.payload in
     let parts : lowered (is.written ++ 49 ∷ a.rest) ≡ lowered (prefix ++ 49 ∷ b.rest) =
     map-append to_ascii_lowercase is.written (49 ∷ a.rest) ∙ ap (λ front. front ++ lowered (49 ∷ a.rest)) is.same
     ∙ ap (λ rest. lowered prefix ++ 49 ∷ rest) rests ∙ sym (map-append to_ascii_lowercase prefix (49 ∷ b.rest)) in
@@ -62,7 +63,8 @@ lowered_same prefix text other key is b =
 
 reads_back : (prefix : List ℕ) → MayBeWritten prefix → KeyReadsBack prefix
 reads_back prefix may key bytes =
-    let (reads, in_case) : IsBech32 (bech32_text prefix key) prefix key × IsInCaseOf prefix (bech32_text prefix key) = written prefix key may.0 may.1 bytes.bytes in
+    let (reads, in_case) : IsBech32 (bech32_text prefix key) prefix key × IsInCaseOf prefix (bech32_text prefix key) =
+    written prefix key may.0 may.1 bytes.bytes in
     let text : IsKeyText prefix (bech32_text prefix key) key = record { written = prefix; same = refl; reads = reads; size = bytes.len } in
     record {
       text = text;

@@ -40,7 +40,8 @@ made due stanza (inr want) = absurd (Prim.cc)
 
 module _ (seal_of : List ℕ → List ℕ → List ℕ → List ℕ) (stretch_of : List ℕ → List ℕ → ℕ → List ℕ) (accepts : ℕ → Bool) where
   -- what was wrapped with what was drawn
-  pub wraps : (recipient : PassphraseRecipient) (file_key draws salt between label left key : List ℕ) (stanza : StanzaValue) (stanzas : List StanzaValue) (labels : List (List ℕ))
+  pub wraps : (recipient : PassphraseRecipient) (file_key draws salt between label left key : List ℕ) (stanza : StanzaValue)
+      (stanzas : List StanzaValue) (labels : List (List ℕ))
       → Some salt ≡ taken 16 draws → between ≡ left_after 16 draws → Some label ≡ taken 24 between → left ≡ left_after 24 between
       → AreBytesOf 16 file_key → AreBytesOf 16 salt → AreBytesOf 24 label → accepts recipient.factor ≡ true
       → key ≡ stretch_of recipient.passphrase (stretch_salt salt) recipient.factor
@@ -57,7 +58,8 @@ all_bytes (x ∷ xs) h =
     All-cons (λ b. b < 2 ^ 8) x xs (omega (arith, ltb-true x 256 first)) (all_bytes xs rest)
 
 salt-bytes : (salt : List ℕ) → AreBytesOf 16 salt → AreBytes (stretch_salt salt)
-salt-bytes salt h = All-append (λ b. b < 2 ^ 8) (codes "age-encryption.org/v1/scrypt") salt (all_bytes (codes "age-encryption.org/v1/scrypt") refl) h.bytes
+salt-bytes salt h = All-append (λ b. b < 2 ^ 8) (codes "age-encryption.org/v1/scrypt") salt
+    (all_bytes (codes "age-encryption.org/v1/scrypt") refl) h.bytes
 
 first_of : (a b : List ℕ) (s t : List (List ℕ)) → a ∷ s ≡ b ∷ t → a ≡ b
 first_of a b s t is = cc
@@ -70,16 +72,19 @@ one_stretching : (with_ other : Stretching) (s : StanzaValue) → HasStretching 
 one_stretching with_ other s h o =
     let same = sym o.args ∙ h.args in
     let salt : other.salt ≡ with_.salt = columns_same other.salt with_.salt o.bytes.bytes h.bytes.bytes (first_of _ _ _ _ same) in
-    let factor : other.factor ≡ with_.factor = decimal_injective other.factor with_.factor (omega (arith, o.fits)) (omega (arith, h.fits)) (second_of _ _ _ _ _ _ same) in
+    let factor : other.factor ≡ with_.factor =
+    decimal_injective other.factor with_.factor (omega (arith, o.fits)) (omega (arith, h.fits)) (second_of _ _ _ _ _ _ same) in
     λ i. record { salt = salt i; factor = factor i }
 
-module _ (opened : List ℕ → List ℕ → List ℕ → Option (List ℕ)) (stretch_of : List ℕ → List ℕ → ℕ → List ℕ) (accepts : ℕ → Bool) (identity : PassphraseIdentity) where
+module _ (opened : List ℕ → List ℕ → List ℕ → Option (List ℕ)) (stretch_of : List ℕ → List ℕ → ℕ → List ℕ) (accepts : ℕ → Bool)
+    (identity : PassphraseIdentity) where
   not_opened : (with_ : Stretching) (body : List ℕ) → nat_le with_.factor identity.most ≡ true → accepts with_.factor ≡ true
       → opened (stretch_of identity.passphrase (stretch_salt with_.salt) with_.factor) no_nonce body ≡ None
       → key_under opened stretch_of accepts identity with_ body ≡ Err DecryptionFailed
   not_opened with_ body within takes shut = rw (within, takes, shut) refl
 
-  failed : (made : Result (List ℕ) DecryptRefusal) (answer : UnwrapAnswer) → made ≡ Err DecryptionFailed → (answer ≡ Some made) ⊎ (answer ≡ Some (Err out_of_memory))
+  failed : (made : Result (List ℕ) DecryptRefusal) (answer : UnwrapAnswer) → made ≡ Err DecryptionFailed
+      → (answer ≡ Some made) ⊎ (answer ≡ Some (Err out_of_memory))
       → (answer ≡ Some (Err DecryptionFailed)) ⊎ (answer ≡ Some (Err out_of_memory))
   failed made answer shut (inl is) = inl (is ∙ ap Some shut)
   failed made answer shut (inr want) = inr want
@@ -88,15 +93,18 @@ module _ (opened : List ℕ → List ℕ → List ℕ → Option (List ℕ)) (st
   refuses_unopened s with_ tag has most takes shut answer asked =
       failed (key_under opened stretch_of accepts identity with_ s.body) answer
       (not_opened with_ s.body (le-leb with_.factor identity.most most) takes shut)
-      (answers_own HasStretching (λ other body. Some (key_under opened stretch_of accepts identity other body)) (codes "scrypt") s with_ answer tag has
+      (answers_own HasStretching (λ other body. Some (key_under opened stretch_of accepts identity other body))
+      (codes "scrypt") s with_ answer tag has
       (λ other of_other. one_stretching with_ other s has of_other) asked)
 
 -- wrapped where the suite accepts the factor
-pub was_accepted : (accepts : Bool) (made wrapped : Wrapped) → (if accepts then Ok made else Err WorkFactorRefused) ≡ Ok wrapped → (accepts ≡ true) × (made ≡ wrapped)
+pub was_accepted : (accepts : Bool) (made wrapped : Wrapped) → (if accepts then Ok made else Err WorkFactorRefused) ≡ Ok wrapped
+    → (accepts ≡ true) × (made ≡ wrapped)
 was_accepted true made wrapped is = (refl, same_value made wrapped is)
 was_accepted false made wrapped is = no_refusal wrapped WorkFactorRefused (sym is)
 
-module _ (seal_of : List ℕ → List ℕ → List ℕ → List ℕ) (opened : List ℕ → List ℕ → List ℕ → Option (List ℕ)) (stretch_of : List ℕ → List ℕ → ℕ → List ℕ)
+module _ (seal_of : List ℕ → List ℕ → List ℕ → List ℕ) (opened : List ℕ → List ℕ → List ℕ → Option (List ℕ))
+    (stretch_of : List ℕ → List ℕ → ℕ → List ℕ)
     (accepts : ℕ → Bool) (cipher : IsCipher seal_of opened) (stretching : IsStretching stretch_of accepts) (recipient : PassphraseRecipient)
     (identity : PassphraseIdentity) (meant : IsMeantFor recipient identity) (passphrase : AreBytes recipient.passphrase) (some : 1 ≤ recipient.factor)
     (most : recipient.factor ≤ 63) where
@@ -125,10 +133,12 @@ module _ (seal_of : List ℕ → List ℕ → List ℕ → List ℕ) (opened : L
     opens : key_under opened stretch_of accepts identity with_this sealed ≡ Ok file_key
     opens =
         let within : nat_le recipient.factor identity.most ≡ true = le-leb recipient.factor identity.most meant.most in
-        let whole : opened key no_nonce sealed ≡ Some file_key = (cipher.opens_exactly key no_nonce sealed file_key key-bytes no_nonce-bytes sealed-size.bytes).1 (f.bytes, refl) in
+        let whole : opened key no_nonce sealed ≡ Some file_key =
+        (cipher.opens_exactly key no_nonce sealed file_key key-bytes no_nonce-bytes sealed-size.bytes).1 (f.bytes, refl) in
         rw (meant.same, within, takes, whole) refl
 
-    key_or_want : (answer : UnwrapAnswer) → (answer ≡ Some (key_under opened stretch_of accepts identity with_this sealed)) ⊎ (answer ≡ Some (Err out_of_memory))
+    key_or_want : (answer : UnwrapAnswer) → (answer ≡ Some (key_under opened stretch_of accepts identity with_this sealed))
+        ⊎ (answer ≡ Some (Err out_of_memory))
         → (answer ≡ Some (Ok file_key)) ⊎ (answer ≡ Some (Err out_of_memory))
     key_or_want answer (inl is) = inl (is ∙ ap Some opens)
     key_or_want answer (inr want) = inr want
@@ -137,7 +147,8 @@ module _ (seal_of : List ℕ → List ℕ → List ℕ → List ℕ) (opened : L
         → (answer ≡ Some (Ok file_key)) ⊎ (answer ≡ Some (Err out_of_memory))
     answered answer asked =
         key_or_want answer
-        (answers_own HasStretching (λ with_ body. Some (key_under opened stretch_of accepts identity with_ body)) (codes "scrypt") stanza with_this answer refl
+        (answers_own HasStretching (λ with_ body. Some (key_under opened stretch_of accepts identity with_ body))
+        (codes "scrypt") stanza with_this answer refl
         has_stretching (λ other of_other. one_stretching with_this other stanza has_stretching of_other) asked)
 
   abbrev Wraps : PassphraseRecipient → List ℕ → List ℕ → WrapAnswer → List ℕ → Type 0
@@ -149,17 +160,26 @@ module _ (seal_of : List ℕ → List ℕ → List ℕ → List ℕ) (opened : L
   opens_first : OpensFirst Asks Wraps recipient identity
   opens_first file_key wrapped sixteen wraps_so =
       let (draws, left, made_so) = wraps_so in
-      let (enough, given) = was_drawn (nat_le 16 (length draws)) 16 (λ salt. WithDrawn 24 (λ label. WrapsWithSalt seal_of stretch_of accepts recipient file_key salt label)) draws left
+      let (enough, given) = was_drawn (nat_le 16 (length draws)) 16
+      (λ salt. WithDrawn 24 (λ label. WrapsWithSalt seal_of stretch_of accepts recipient file_key salt label)) draws left
       wrapped made_so in
-      let (more, wrapping) = was_drawn (nat_le 24 (length (drop 16 draws))) 24 (WrapsWithSalt seal_of stretch_of accepts recipient file_key (take 16 draws)) (drop 16 draws) left
+      let (more, wrapping) = was_drawn (nat_le 24 (length (drop 16 draws))) 24
+      (WrapsWithSalt seal_of stretch_of accepts recipient file_key (take 16 draws)) (drop 16 draws) left
       wrapped given in
       let (f, s, l, after) = wrapping in
-      let due = was_due (wrapped_under seal_of stretch_of accepts recipient file_key (take 16 draws) (take 24 (drop 16 draws))) (drop 24 (drop 16 draws)) left wrapped after in
-      let (takes, is) = was_accepted (accepts recipient.factor) _ wrapped due in
-      (stanza file_key (take 16 draws) f s takes, [], ap (λ w. w.stanzas) (sym is), λ answer next asked. answered file_key (take 16 draws) f s takes answer asked.0)
+      let due = was_due (wrapped_under seal_of stretch_of accepts recipient file_key (take 16 draws) (take 24 (drop 16 draws)))
+      (drop 24 (drop 16 draws)) left wrapped after in
+      let (takes, is) = was_accepted (accepts recipient.factor) _ wrapped due in (
+        stanza file_key (take 16 draws) f s takes,
+        [],
+        ap (λ w. w.stanzas) (sym is),
+        λ answer next asked. answered file_key
+            (take 16 draws) f s takes answer asked.0,
+      )
 
   pub belongs : BelongsTo Wraps (FirstOf Asks) has_other_tag recipient identity
   belongs =
       by_stanza Asks Wraps has_other_tag recipient identity
       (λ s answer after other asked. unchanged identity after answer asked.1
-      (passes_other HasStretching (λ with_ body. Some (key_under opened stretch_of accepts identity with_ body)) (codes "scrypt") s answer other asked.0)) opens_first
+      (passes_other HasStretching (λ with_ body. Some (key_under opened stretch_of accepts identity with_ body))
+      (codes "scrypt") s answer other asked.0)) opens_first

@@ -43,7 +43,8 @@ pub one_argument : {A : Type 0} (f : A → List ℕ) (items before : List A) (x 
 one_argument f items before x text e none is = rw (e, none) (ap (λ a. a ∷ []) is)
 
 -- two arguments
-pub two_arguments : {A : Type 0} (f : A → List ℕ) (items one before : List A) (x y : A) (text more : List ℕ) → items ≡ one ++ y ∷ [] → one ≡ before ++ x ∷ []
+pub two_arguments : {A : Type 0} (f : A → List ℕ) (items one before : List A) (x y : A) (text more : List ℕ) → items ≡ one ++ y ∷ []
+    → one ≡ before ++ x ∷ []
     → before ≡ [] → f x ≡ text → f y ≡ more → map f items ≡ text ∷ more ∷ []
 two_arguments f items one before x y text more second first none is too =
     rw (second, first, none) (ap (λ a. a ∷ f y ∷ []) is ∙ ap (λ b. text ∷ b ∷ []) too)
@@ -52,7 +53,8 @@ two_arguments f items one before x y text more second first none is too =
 pub share-strings : (share : List ℕ) (args : List (List ℕ)) → AreBytesOf 32 share → args ≡ columns share ∷ [] → AllByRecursion IsString args
 share-strings share args bytes are = rw are (columns-string 32 share (omega arith) bytes, tt)
 
-pub stretching-strings : (salt : List ℕ) (factor : ℕ) (args : List (List ℕ)) → AreBytesOf 16 salt → factor < 2 ^ 8 → args ≡ columns salt ∷ decimal factor ∷ []
+pub stretching-strings : (salt : List ℕ) (factor : ℕ) (args : List (List ℕ)) → AreBytesOf 16 salt → factor < 2 ^ 8
+    → args ≡ columns salt ∷ decimal factor ∷ []
     → AllByRecursion IsString args
 stretching-strings salt factor args bytes fits are = rw are (columns-string 16 salt (omega arith) bytes, (decimal-string factor fits, tt))
 

@@ -20,14 +20,17 @@ use Rattle.age_keys.proofs.Opening.{no_nonce-bytes}
 use Rattle.age_keys.proofs.OwnTypes.{answers_own}
 
 -- bytes were drawn
-pub was_drawn : (enough : Bool) (n : ℕ) (goes_on : List ℕ → List ℕ → Result Wrapped EncryptRefusal → List ℕ → Type 0) (draws left : List ℕ) (wrapped : Wrapped)
+pub was_drawn : (enough : Bool) (n : ℕ) (goes_on : List ℕ → List ℕ → Result Wrapped EncryptRefusal → List ℕ → Type 0) (draws left : List ℕ)
+    (wrapped : Wrapped)
     → MatchOption (if enough then Some (take n draws) else None) (Ends (Err ShortRandom) draws (Ok wrapped) left)
-    (λ bytes. goes_on bytes (if enough then drop n draws else draws) (Ok wrapped) left) → (enough ≡ true) × goes_on (take n draws) (drop n draws) (Ok wrapped) left
+    (λ bytes. goes_on bytes (if enough then drop n draws else draws) (Ok wrapped) left)
+    → (enough ≡ true) × goes_on (take n draws) (drop n draws) (Ok wrapped) left
 was_drawn true n goes_on draws left wrapped h = (refl, h)
 was_drawn false n goes_on draws left wrapped h = no_refusal wrapped ShortRandom h.0
 
 -- wrapped where the secret isn't the one that everybody shares
-was_wrapped : (zero : Bool) (made wrapped : Wrapped) → (if zero then Err ZeroSharedSecret else Ok made) ≡ Ok wrapped → (zero ≡ false) × (made ≡ wrapped)
+was_wrapped : (zero : Bool) (made wrapped : Wrapped) → (if zero then Err ZeroSharedSecret else Ok made) ≡ Ok wrapped
+    → (zero ≡ false) × (made ≡ wrapped)
 was_wrapped true made wrapped is = no_refusal wrapped ZeroSharedSecret (sym is)
 was_wrapped false made wrapped is = (refl, same_value made wrapped is)
 
@@ -70,10 +73,12 @@ module _ (seal_of : List ℕ → List ℕ → List ℕ → List ℕ) (opened : L
     opens : bytes_eq shared no_secret ≡ false → opened_with opened shared_of public_of secret share sealed ≡ Some (Ok file_key)
     opens other =
         let alike : shared_of secret share ≡ shared = agreement.alike secret ephemeral s e in
-        let whole : opened key no_nonce sealed ≡ Some file_key = (cipher.opens_exactly key no_nonce sealed file_key key-bytes no_nonce-bytes sealed-size.bytes).1 (f.bytes, refl) in
+        let whole : opened key no_nonce sealed ≡ Some file_key =
+        (cipher.opens_exactly key no_nonce sealed file_key key-bytes no_nonce-bytes sealed-size.bytes).1 (f.bytes, refl) in
         rw (alike, other, whole) refl
 
-    key_or_want : bytes_eq shared no_secret ≡ false → (answer : UnwrapAnswer) → (answer ≡ opened_with opened shared_of public_of secret share sealed) ⊎ (answer ≡ Some (Err out_of_memory))
+    key_or_want : bytes_eq shared no_secret ≡ false → (answer : UnwrapAnswer)
+        → (answer ≡ opened_with opened shared_of public_of secret share sealed) ⊎ (answer ≡ Some (Err out_of_memory))
         → (answer ≡ Some (Ok file_key)) ⊎ (answer ≡ Some (Err out_of_memory))
     key_or_want other answer (inl is) = inl (is ∙ opens other)
     key_or_want other answer (inr want) = inr want
@@ -87,7 +92,8 @@ module _ (seal_of : List ℕ → List ℕ → List ℕ → List ℕ) (opened : L
 
   pub unwraps_what_it_wraps : UnwrapsWhatItWraps seal_of opened shared_of public_of
   unwraps_what_it_wraps secret file_key draws left wrapped s wraps =
-      let (enough, given) = was_drawn (nat_le 32 (length draws)) 32 (WrapsWithEphemeral seal_of shared_of public_of (public_of secret) file_key) draws left wrapped wraps in
+      let (enough, given) = was_drawn (nat_le 32 (length draws)) 32
+      (WrapsWithEphemeral seal_of shared_of public_of (public_of secret) file_key) draws left wrapped wraps in
       let (f, e, after) = given in
       let ephemeral = take 32 draws in
       let due = was_due (wrapped_with seal_of shared_of public_of (public_of secret) file_key ephemeral) (drop 32 draws) left wrapped after in

@@ -30,7 +30,11 @@ pub(crate) fn seal_stanza<S: Suite>(
 ) -> Result<Stanza, EncryptError>
     requires tag { IsString tag.now }
     requires args { AllByRecursion IsString (map (λ a. string_bytes a) args.items) }
-    ensures { IsOrNoMemory (Ok (record { tag = tag.now; args = map (λ a. string_bytes a) args.items; body = S.seal_of wrap_key.now no_nonce file_key.now }))
+    ensures { IsOrNoMemory (Ok (record {
+      tag = tag.now;
+      args = map (λ a. string_bytes a) args.items;
+      body = S.seal_of wrap_key.now no_nonce file_key.now;
+    }))
         (result_map_both (λ s. s) (λ e. encrypt_refusal e) result) }
 {
     let body = S::seal(alloc, wrap_key, &NO_NONCE, file_key.expose_secret())?;
@@ -50,6 +54,7 @@ pub(crate) fn open_file_key<S: Suite>(
     requires { length body.now ≡ 32 }
     ensures { IfOk result (λ found. option_map (λ key. key) found ≡ S.opened key.now no_nonce body.now) }
 {
+    // For the proof alone: these are bytes, each below 256.
     known_array(key);
     known_bytes(body);
     let Some(bytes) = S::open(alloc, &mut Opens::new(), key, &NO_NONCE, body)? else {

@@ -15,7 +15,8 @@ pub(crate) fn parse_key(
     prefix: &str,
     size_message: &'static str,
 ) -> Result<[u8; 32], &'static str>
-    ensures { MatchResult result (λ key. IsKeyText prefix.now text.now key) (λ message. IsRefusedAs prefix.now size_message.now text.now message.now) }
+    ensures { MatchResult result (λ key. IsKeyText prefix.now text.now key)
+        (λ message. IsRefusedAs prefix.now size_message.now text.now message.now) }
 {
     let Some((written, data)) = decode_array::<32>(text) else {
         return Err("invalid Bech32 encoding");

@@ -68,14 +68,16 @@ begins_as stanzas mac nonce more bytes begins = record {
   whole = begins.whole;
 }
 
-pub begins : (seal_of : Seal) (file_key : List ℕ) (stanzas : List StanzaValue) (plain text : List ℕ) (f : IsFileOf seal_of file_key stanzas plain text)
+pub begins : (seal_of : Seal) (file_key : List ℕ) (stanzas : List StanzaValue) (plain text : List ℕ)
+    (f : IsFileOf seal_of file_key stanzas plain text)
     → BeginsAsFile stanzas (header_mac file_key (covered_text stanzas)) f.nonce (payload seal_of (payload_key file_key f.nonce) plain) text
 unfolding file_text file_front
 begins seal_of file_key stanzas plain text f = record {
   header = f.header;
   rule = f.rule;
   sixteen = f.sixteen;
-  whole = f.whole ∙ append_assoc (header_text stanzas (header_mac file_key (covered_text stanzas))) f.nonce (payload seal_of (payload_key file_key f.nonce) plain);
+  whole = f.whole ∙ append_assoc (header_text stanzas (header_mac file_key (covered_text stanzas))) f.nonce
+      (payload seal_of (payload_key file_key f.nonce) plain);
 }
 
 -- a header's text is read as that header, whatever follows
@@ -89,7 +91,8 @@ HasOneVerdict = (legacy : Bool) (input front other : List ℕ) (v w : Verdict) �
     → IsVerdict legacy input other w → (front ≡ other) × (v ≡ w)
 
 -- What was read from bytes that begin so: the same text, stanzas, MAC and nonce, and no byte of what follows.
-pub record IsReadBack (text other : List ℕ) (stanzas others : List StanzaValue) (mac own nonce read more : List ℕ) (start rest : Stretch) : Type 0 where
+pub record IsReadBack (text other : List ℕ) (stanzas others : List StanzaValue) (mac own nonce read more : List ℕ)
+    (start rest : Stretch) : Type 0 where
   pub text_is : other ≡ text
   pub stanzas_are : others ≡ stanzas
   pub mac_is : own ≡ mac
@@ -100,7 +103,8 @@ pub record IsReadBack (text other : List ℕ) (stanzas others : List StanzaValue
 module _ (alone : ReadsAlone) (one : HasOneVerdict) (legacy : Bool) (text : List ℕ) (stanzas : List StanzaValue) (mac nonce more : List ℕ) where
   -- the verdict on them
   pub verdict_of : (bytes : List ℕ) → BeginsAs legacy text stanzas mac nonce more bytes → IsVerdict legacy bytes text (Header stanzas mac)
-  verdict_of bytes begins = subst (λ input. IsVerdict legacy input text (Header stanzas mac)) (sym begins.whole) (alone legacy text (nonce ++ more) stanzas mac begins.header)
+  verdict_of bytes begins = subst (λ input. IsVerdict legacy input text (Header stanzas mac)) (sym begins.whole)
+      (alone legacy text (nonce ++ more) stanzas mac begins.header)
 
   pub read_back : (start rest : Stretch) (start_place place : ℕ) (other : List ℕ) (others : List StanzaValue) (own read : List ℕ)
       → TookHeaderAndNonce legacy start rest start_place place other others own read → BeginsAs legacy text stanzas mac nonce more start.bytes
@@ -139,7 +143,8 @@ module _ (alone : ReadsAlone) (one : HasOneVerdict) (legacy : Bool) (text : List
   after_accepted : (f g : ℕ) (old new : Stretch) (p q : ℕ) (e : DecryptRefusal) → BeginsAs legacy text stanzas mac nonce more old.bytes
       → IsQuiet f g → BreaksFrontRules legacy f g old new p q e → e ≡ refusals.OutOfMemory
   after_accepted f g old new p q e begins quiet why =
-      let same = one legacy old.bytes why.text text (Header why.stanzas why.mac) (Header stanzas mac) why.header.verdict (verdict_of old.bytes begins) in
+      let same = one legacy old.bytes why.text text (Header why.stanzas why.mac) (Header stanzas mac) why.header.verdict
+      (verdict_of old.bytes begins) in
       let left : why.after.bytes ≡ nonce ++ more =
       rest_same why.text text why.after.bytes (nonce ++ more) (ap length same.0) (sym why.header.delivered.bytes ∙ begins.whole) in
       elim why.why [
@@ -150,7 +155,8 @@ module _ (alone : ReadsAlone) (one : HasOneVerdict) (legacy : Bool) (text : List
               let size : length nonce ≡ 16 = begins.sixteen.len in
               absurd (omega (arith, few, size, ap length left, length-append nonce more))
         ]
-        | inr breaks ↦ absurd (breaks.broken (subst (λ xs. KeepsScryptRule xs) (sym (same_stanzas why.stanzas stanzas why.mac mac same.1)) begins.rule))
+        | inr breaks ↦ absurd (breaks.broken (subst (λ xs. KeepsScryptRule xs)
+            (sym (same_stanzas why.stanzas stanzas why.mac mac same.1)) begins.rule))
       ]
 
   -- they are refused for want of memory alone
@@ -164,13 +170,15 @@ module _ (alone : ReadsAlone) (one : HasOneVerdict) (legacy : Bool) (text : List
 module _ (alone : ReadsAlone) (one : HasOneVerdict) where
   pub reads_back : ReadsBack
   reads_back start rest start_place place h read stanzas mac nonce more front begins =
-      let back = read_back alone one canonical (header_text stanzas mac) stanzas mac nonce more start rest start_place place (header_text h.stanzas h.mac) h.stanzas h.mac read
+      let back = read_back alone one canonical (header_text stanzas mac) stanzas mac nonce more start rest start_place place
+      (header_text h.stanzas h.mac) h.stanzas h.mac read
       front.took (begins_as stanzas mac nonce more start.bytes begins) in
       (back.stanzas_are, back.mac_is, back.nonce_is, back.left, back.end)
 
   pub accepted : {R : Type 0} (read : Ghosts R) → RefusesNoFile read
   accepted read old new e stanzas mac nonce more refuses told quiet begins =
-      front_accepted alone one canonical (header_text stanzas mac) stanzas mac nonce more (read.faults old) (read.faults new) (read.rest old) (read.rest new)
+      front_accepted alone one canonical (header_text stanzas mac) stanzas mac nonce more (read.faults old) (read.faults new) (read.rest old)
+      (read.rest new)
       (read.place old) (read.place new) e (begins_as stanzas mac nonce more (read.rest old).bytes begins) quiet (refuses.why told)
 
 pub opens : (back : ReadsBack) (seal_of : Seal) → FileOpens seal_of

@@ -3,7 +3,8 @@ use Rattle.std.proofs.Common.{◌≡◌, List, [], ◌∷◌, ◌++◌, Option, 
 use Rattle.age_v1.specs.Stanza.{StanzaValue}
 use Rattle.age_v1.specs.Identities.{UnwrapAnswer, Unwraps, FirstThatAnswers, FirstAnswer}
 
-decider_is : {I : Type 0} (one : I) (passed : List I) (decider : I) (later : List I) → Path (List I) (one ∷ []) (passed ++ decider ∷ later) → decider ≡ one
+decider_is : {I : Type 0} (one : I) (passed : List I) (decider : I) (later : List I) → Path (List I) (one ∷ []) (passed ++ decider ∷ later)
+    → decider ≡ one
 decider_is one [] decider later is = cc
 decider_is one (p ∷ []) decider later is = absurd (Prim.cc)
 decider_is one (p ∷ q ∷ passed) decider later is = absurd (Prim.cc)
@@ -30,14 +31,18 @@ module _ {I A : Type 0} (asks : I → Option A → I → Type 0) (one : I) where
   pub alone_asked : (answer : Option A) (after : List I) → FirstThatAnswers asks (one ∷ []) answer after → (then : I) × asks one answer then
   alone_asked None [] none = absurd none
   alone_asked None (then ∷ rest) none = (then, none.0)
-  alone_asked (Some a) after decides =
-      (decides.decider_after, subst (λ i. asks i (Some a) decides.decider_after) (decider_is one decides.passed decides.decider decides.later decides.all_before) decides.answers)
+  alone_asked (Some a) after decides = (
+    decides.decider_after,
+    subst (λ i. asks i (Some a) decides.decider_after)
+        (decider_is one decides.passed decides.decider decides.later decides.all_before) decides.answers,
+  )
 
   pub alone_is : (answer : Option A) (then : I) → FirstThatAnswers asks (one ∷ []) answer (then ∷ []) → asks one answer then
   alone_is None then none = none.0
   alone_is (Some a) then decides =
       subst (λ i. asks one (Some a) i) (decider_is then decides.passed_after decides.decider_after decides.later decides.all_after)
-      (subst (λ i. asks i (Some a) decides.decider_after) (decider_is one decides.passed decides.decider decides.later decides.all_before) decides.answers)
+      (subst (λ i. asks i (Some a) decides.decider_after)
+      (decider_is one decides.passed decides.decider decides.later decides.all_before) decides.answers)
 
 pub alone_answers : {I : Type 0} (unwraps : I → List StanzaValue → UnwrapAnswer → I → Type 0) (one : I) (stanzas : List StanzaValue)
     (answer : UnwrapAnswer) (after : I) → Unwraps unwraps one stanzas answer after → FirstAnswer unwraps (one ∷ []) stanzas answer

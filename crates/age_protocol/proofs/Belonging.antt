@@ -41,7 +41,8 @@ greased_order (s ∷ stanzas) None all is = sym (same_value (s ∷ stanzas) all 
 greased_order stanzas (Some grease) all is = sym (same_value (stanzas ++ grease ∷ []) all is)
 
 closed_by : (passphrase single : Bool) (stanzas : List StanzaValue) (grease : Option StanzaValue) (all : List StanzaValue) (e : EncryptRefusal)
-    → ◌≡◌ {A = Result (List StanzaValue) EncryptRefusal} (if passphrase then (if single then Ok stanzas else Err e) else greased stanzas grease) (Ok all)
+    → ◌≡◌ {A = Result (List StanzaValue) EncryptRefusal} (if passphrase then (if single then Ok stanzas else Err e) else greased stanzas grease)
+    (Ok all)
     → all ≡ stanzas ++ grease_beside passphrase grease
 closed_by true true stanzas grease all e is = sym (same_value stanzas all is) ∙ sym (append-nil stanzas)
 closed_by true false stanzas grease all e is = no_refusal all e (sym is)
@@ -149,7 +150,8 @@ module _ {R : Type 0} (wraps : R → List ℕ → List ℕ → WrapAnswer → Li
 
   pub hold_answers : HoldAnswers wraps
   hold_answers recipients grease draws left file prepares =
-      with_key (taken 16 draws) recipients grease draws (left_after 16 draws) left file (λ bytes given. taken_length (nat_le 16 (length draws)) draws refl bytes given) prepares
+      with_key (taken 16 draws) recipients grease draws (left_after 16 draws) left file
+      (λ bytes given. taken_length (nat_le 16 (length draws)) draws refl bytes given) prepares
 
   -- ---- the stanzas of one among several
 
@@ -159,7 +161,8 @@ module _ {R : Type 0} (wraps : R → List ℕ → List ℕ → WrapAnswer → Li
 
     found : (file_key : List ℕ) (front : List R) (recipient : R) (back : List R) (answers : List Wrapped) → length file_key ≡ 16
         → AllZip (MayWrap wraps file_key) (front ++ recipient ∷ back) answers → All (WrapsStrange wraps is_strange) front
-        → (before : List StanzaValue) × (wrapped : Wrapped) × (later : List StanzaValue) × MayWrap wraps file_key recipient wrapped × AreStrange before
+        → (before : List StanzaValue) × (wrapped : Wrapped) × (later : List StanzaValue) × MayWrap wraps file_key recipient wrapped
+        × AreStrange before
         × (stanzas_of answers ≡ before ++ (wrapped.stanzas ++ later))
     found file_key [] recipient back [] sixteen each strange = absurd each
     found file_key [] recipient back (a ∷ answers) sixteen each strange =
@@ -172,7 +175,8 @@ module _ {R : Type 0} (wraps : R → List ℕ → List ℕ → WrapAnswer → Li
           wrapped,
           later,
           wraps_so,
-          All-append (λ s. IsTrue (is_strange s)) a.stanzas before (All-head (WrapsStrange wraps is_strange) r front strange file_key a sixteen each.0) passed,
+          All-append (λ s. IsTrue (is_strange s)) a.stanzas before
+              (All-head (WrapsStrange wraps is_strange) r front strange file_key a sixteen each.0) passed,
           ap (λ l. a.stanzas ++ l) is ∙ sym (append_assoc a.stanzas before (wrapped.stanzas ++ later)),
         )
 

@@ -62,7 +62,8 @@ module _ {I : Type 0} (seal_of : Seal) (unwraps : I → List StanzaValue → Unw
         let h = asked.h in
         let (stanzas_are, mac_is, nonce_is, left, end) = reads_back alone one (read_of text) asked.left 0 asked.place h asked.nonce
         for.stanzas _ f.nonce sealed asked.front begins in
-        let right : h.mac ≡ header_mac for.file_key (covered_text h.stanzas) = mac_is ∙ ap (λ s. header_mac for.file_key (covered_text s)) (sym stanzas_are) in
+        let right : h.mac ≡ header_mac for.file_key (covered_text h.stanzas) =
+        mac_is ∙ ap (λ s. header_mac for.file_key (covered_text s)) (sym stanzas_are) in
         let key : payload_key for.file_key f.nonce ≡ payload_key for.file_key asked.nonce = ap (λ n. payload_key for.file_key n) (sym nonce_is) in
         let all : asked.left ≡ whole (payload seal_of (payload_key for.file_key asked.nonce) plain) =
         stretch-ext asked.left (whole (payload seal_of (payload_key for.file_key asked.nonce) plain))
@@ -83,7 +84,8 @@ module _ {I : Type 0} (seal_of : Seal) (unwraps : I → List StanzaValue → Unw
     none why = elim why [
       | inl (same, inl memory) ↦ memory
       | inl (same, inr lacks) ↦
-          front_accepted alone one canonical _ for.stanzas _ f.nonce sealed 0 0 (read_of text) lacks.left 0 lacks.place refusal (begins_as for.stanzas _ f.nonce sealed (read_of text).bytes begins)
+          front_accepted alone one canonical _ for.stanzas _ f.nonce sealed 0 0 (read_of text) lacks.left 0 lacks.place refusal
+          (begins_as for.stanzas _ f.nonce sealed (read_of text).bytes begins)
           (record { same = refl; below = omega arith }) lacks.why
       | inr asked ↦ asked_none asked
     ]

@@ -33,7 +33,8 @@ pub both_told : (a b a' b' : Bool) → a' ≡ a → b' ≡ b → IsTrue (a && b)
 both_told a b a' b' p q t = rw (p, q) t
 
 -- why what a text delivers doesn't begin as a file, said of the reader that gives the text
-pub refuses_text : {A R : Type 0} (read : Ghosts A) (r_tells : R → Bool) (r_rest : R → Stretch) (r_faults : R → ℕ) (text last : A) (reader r_last : R) (e : DecryptRefusal)
+pub refuses_text : {A R : Type 0} (read : Ghosts A) (r_tells : R → Bool) (r_rest : R → Stretch) (r_faults : R → ℕ) (text last : A)
+    (reader r_last : R) (e : DecryptRefusal)
     → read.tells text ≡ r_tells reader → read.faults text ≡ r_faults reader → read.faults last ≡ r_faults r_last → read.place text ≡ 0
     → read.rest text ≡ stretch_of (text_delivers (r_rest reader).bytes (r_rest reader).ends_well)
     → RefusesFront canonical read text last e → RefusesText r_tells r_rest r_faults reader r_last e
@@ -45,7 +46,8 @@ refuses_text read r_tells r_rest r_faults text last reader r_last e told old_fau
   why = λ tells_text.
       let delivers = stretch_of (text_delivers (r_rest reader).bytes (r_rest reader).ends_well) in
       let by_text : WhyNoFront canonical (read.faults text) (read.faults last) delivers (read.rest last) (read.place text) (read.place last) e =
-      subst (λ (s : Stretch). WhyNoFront canonical (read.faults text) (read.faults last) s (read.rest last) (read.place text) (read.place last) e) is (refuses.why (told ∙ tells_text)) in
+      subst (λ (s : Stretch). WhyNoFront canonical (read.faults text) (read.faults last) s (read.rest last) (read.place text) (read.place last) e)
+      is (refuses.why (told ∙ tells_text)) in
       let by_place : WhyNoFront canonical (read.faults text) (read.faults last) delivers (read.rest last) 0 (read.place last) e =
       subst (λ (p : ℕ). WhyNoFront canonical (read.faults text) (read.faults last) delivers (read.rest last) p (read.place last) e) start by_text in
       let by_faults : WhyNoFront canonical (r_faults reader) (read.faults last) delivers (read.rest last) 0 (read.place last) e =
@@ -72,7 +74,8 @@ by_cause f g (inl a) = f a
 by_cause f g (inr b) = g b
 
 -- a refusal of decryption says what follows from what it says
-pub decrypts_weaker : (P Q : DecryptRefusal → Type 0) → ((refusal : DecryptRefusal) → P refusal → Q refusal) → (e : FileError) → DecryptsUnless P e → DecryptsUnless Q e
+pub decrypts_weaker : (P Q : DecryptRefusal → Type 0) → ((refusal : DecryptRefusal) → P refusal → Q refusal) → (e : FileError)
+    → DecryptsUnless P e → DecryptsUnless Q e
 decrypts_weaker P Q f (Decrypt e) d = f (decrypt_refusal e) d
 decrypts_weaker P Q f (Io e) d = tt
 decrypts_weaker P Q f (Encrypt e) d = d

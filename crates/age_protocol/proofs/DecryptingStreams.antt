@@ -30,11 +30,13 @@ use Rattle.age_protocol.proofs.Standing.{begun, begun-or}
 use Rattle.age_protocol.proofs.Decrypted.{by_cause, decrypts_weaker}
 
 -- the same cause of a refusal
-same_cause : (Text : DecryptRefusal → Type 0) (begins : HeaderValue → List ℕ → Stretch → Type 0) (answers own : List StanzaValue → UnwrapAnswer → Type 0)
+same_cause : (Text : DecryptRefusal → Type 0) (begins : HeaderValue → List ℕ → Stretch → Type 0)
+    (answers own : List StanzaValue → UnwrapAnswer → Type 0)
     → ((stanzas : List StanzaValue) (answer : UnwrapAnswer) → answers stanzas answer → own stanzas answer) → (refusal : DecryptRefusal)
     → Text refusal ⊎ RefusesAnswered begins answers refusal → Text refusal ⊎ RefusesAnswered begins own refusal
 same_cause Text begins answers own answered refusal (inl text) = inl text
-same_cause Text begins answers own answered refusal (inr asked) = inr (refuses_answered begins begins (λ h nonce left begun. begun) answers own answered refusal asked)
+same_cause Text begins answers own answered refusal (inr asked) =
+    inr (refuses_answered begins begins (λ h nonce left begun. begun) answers own answered refusal asked)
 
 -- what holds of the reader's or the writer's error
 pub io_weaker : (Holds More : Error → Type 0) → ((e : Error) → Holds e → More e) → (e : FileError) → IfIo Holds e → IfIo More e
@@ -43,7 +45,8 @@ io_weaker Holds More wider (Encrypt e) h = tt
 io_weaker Holds More wider (Decrypt e) h = tt
 
 -- the same reason of a refusal, told of other identities
-same_reason : {R W : Type 0} (read : ReadGhosts R) (refuses : W → ℕ → Error → Type 0) (input : R) (old : W) (begins : HeaderValue → List ℕ → Stretch → Type 0)
+same_reason : {R W : Type 0} (read : ReadGhosts R) (refuses : W → ℕ → Error → Type 0) (input : R) (old : W)
+    (begins : HeaderValue → List ℕ → Stretch → Type 0)
     (gives by : List ℕ → List StanzaValue → Type 0) → ((key : List ℕ) (stanzas : List StanzaValue) → gives key stanzas → by key stanzas)
     → (Says : List ℕ → Stretch → Type 0) (e : Error)
     → RefusesPlain read input e ⊎ HandsOn refuses old e ⊎ UnderMac begins gives Says
@@ -83,11 +86,13 @@ pub decrypts_all_as : {S R W T : Type 0} (suite : SuiteGhosts S) (read : ReadGho
     → DecryptsAll suite read write gives answers IsFor input old new result → DecryptsAll suite read write by own IsOwn input old new result
 decrypts_all_as {S} {R} {W} {T} suite read write gives by answers own IsFor IsOwn input old new result given answered for all = record {
   file = λ reader_told writer_told.
-      on_ok_weaker result (appends_plaintext_as suite.seal_of gives by given write.appended (read.rest input) old new) (all.file reader_told writer_told);
+      on_ok_weaker result (appends_plaintext_as suite.seal_of gives by given write.appended (read.rest input) old new)
+      (all.file reader_told writer_told);
   refused = all.refused;
   why =
       IfErr-weaker result _ _
-      (decrypts_weaker _ _ (same_cause (λ refusal. ((last : R) × RefusesText read.tells read.rest read.faults input last refusal) × IfIoRefusal (RefusesHead read input) refusal)
+      (decrypts_weaker _ _ (same_cause (λ refusal. ((last : R) × RefusesText read.tells read.rest read.faults input last refusal)
+      × IfIoRefusal (RefusesHead read input) refusal)
       (BeginsText read.tells read.rest input) answers own answered))
       all.why;
   front = λ reader_told writer_told.
@@ -116,13 +121,16 @@ pub decrypts_part_as : {S R W T : Type 0} (suite : SuiteGhosts S) (read : ReadGh
     → DecryptsPart suite read write gives answers IsFor place count input last old new result
     → DecryptsPart suite read write by own IsOwn place count input last old new result
 decrypts_part_as suite read write gives by answers own IsFor IsOwn place count input last old new result given_so answered for part = record {
-  cursor = λ reader_told writer_told well file plain carries own_file. part.cursor reader_told writer_told well file plain carries (for plain file own_file);
+  cursor = λ reader_told writer_told well file plain carries own_file. part.cursor reader_told writer_told well file plain carries
+      (for plain file own_file);
   standing = λ reader_told writer_told.
-      begun-or (BeginsText read.tells read.rest input) (BeginsText read.tells read.rest input) gives by write.appended count (StandsAt suite.seal_of place) old new
+      begun-or (BeginsText read.tells read.rest input) (BeginsText read.tells read.rest input) gives by write.appended count
+      (StandsAt suite.seal_of place) old new
       (λ h nonce left begins. begins) given_so (part.standing reader_told writer_told);
   given = λ reader_told writer_told.
       on_ok_weaker result
-      (begun (BeginsText read.tells read.rest input) (BeginsText read.tells read.rest input) gives by write.appended count (IsPartAt suite.seal_of place count) old new
+      (begun (BeginsText read.tells read.rest input) (BeginsText read.tells read.rest input) gives by write.appended count
+      (IsPartAt suite.seal_of place count) old new
       (λ h nonce left begins. begins) given_so)
       (part.given reader_told writer_told);
   io = part.io;
@@ -140,7 +148,8 @@ decrypts_part_as suite read write gives by answers own IsFor IsOwn place count i
             | inl writes ↦ inr (inr (inl writes))
             | inr rest ↦ elim rest [
               | inl reading ↦ inr (inr (inr (inl reading)))
-              | inr payload ↦ inr (inr (inr (inr (begun (BeginsText read.tells read.rest input) (BeginsText read.tells read.rest input) gives by write.appended count
+              | inr payload ↦ inr (inr (inr (inr (begun (BeginsText read.tells read.rest input)
+                  (BeginsText read.tells read.rest input) gives by write.appended count
                   (RefusesPart suite.seal_of (λ f. f ≡ failed) place e) old new (λ h nonce left begins. begins) given_so payload))))
             ]
           ]

@@ -28,7 +28,8 @@ unfolding file_front
 front_is file_key h nonce text ready is = is ∙ ap (λ mac. header_text h.stanzas mac ++ nonce) ready.right
 
 -- what the writer's `finish` appends to the header and the nonce makes the file
-pub writes_file : {S W : Type 0} (seal_of : Seal) (tells : W → Bool) (faults : W → ℕ) (refuses : W → ℕ → Error → Type 0) (inner_appended : W → List ℕ → W → Type 0)
+pub writes_file : {S W : Type 0} (seal_of : Seal) (tells : W → Bool) (faults : W → ℕ) (refuses : W → ℕ → Error → Type 0)
+    (inner_appended : W → List ℕ → W → Type 0)
     (appended : StreamWriter S W → List ℕ → StreamWriter S W → Type 0)
     (joins : (a b c : W) (x y : List ℕ) → inner_appended a x b → inner_appended b y c → inner_appended a (x ++ y) c)
     (file : Prepared) (output : W) (writer : StreamWriter S W) → IsTrue (tells output)

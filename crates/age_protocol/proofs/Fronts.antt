@@ -26,7 +26,8 @@ use Rattle.age_io.specs.Keeping.{OrEarly}
 use Rattle.age_protocol.proofs.Reasons.{io_refusal_weaker}
 
 -- a nonce follows the header
-pub took_both : {legacy : Bool} (old after new : Stretch) (old_place after_place new_place : ℕ) (text : List ℕ) (stanzas : List StanzaValue) (mac nonce : List ℕ)
+pub took_both : {legacy : Bool} (old after new : Stretch) (old_place after_place new_place : ℕ) (text : List ℕ) (stanzas : List StanzaValue)
+    (mac nonce : List ℕ)
     → TookVerdict legacy old after old_place after_place text (Header stanzas mac) → AreBytesOf 16 nonce → Delivers nonce after new
     → new_place ≡ after_place + length nonce → TookHeaderAndNonce legacy old new old_place new_place text stanzas mac nonce
 took_both old after new old_place after_place new_place text stanzas mac nonce took sixteen gave moved = record {
@@ -59,13 +60,10 @@ is_device io.OutOfMemory d = d
 
 -- Of a header that was read so from one state of a reader to another.
 module _ {R T : Type 0} (read : Ghosts R) (legacy : Bool) (Says : T → Stretch → Stretch → ℕ → ℕ → Type 0) where
-  -- where none is read there is no front
-  pub header_refused : (input last : R) (e : DecryptError) → ReadsOrRefuses {T = T} read legacy Says input last (Err e) → RefusesFront legacy read input last (decrypt_refusal e)
-  header_refused input last e reads = record { same = reads.keeps; device = reads.device; io = reads.io; why = λ told. inl (reads.refused told) }
-
   -- and none where no nonce follows it
   pub nonce_refused : (stanzas : T → List StanzaValue) (mac : T → List ℕ)
-      → ((h : T) (old new : Stretch) (p q : ℕ) → Says h old new p q → (text : List ℕ) × TookVerdict legacy old new p q text (Header (stanzas h) (mac h)))
+      → ((h : T) (old new : Stretch) (p q : ℕ) → Says h old new p q
+      → (text : List ℕ) × TookVerdict legacy old new p q text (Header (stanzas h) (mac h)))
       → (input middle last : R) (h : T) (e : DecryptError) → ReadsOrRefuses {T = T} read legacy Says input middle (Ok h)
       → ReadsNonce read (stanzas h) middle last (Err e) → RefusesFront legacy read input last (decrypt_refusal e)
   nonce_refused stanzas mac says input middle last h e reads follows =

@@ -24,8 +24,10 @@ use Rattle.age_protocol.specs.Passphrases.{WrapsPassphrase, UnwrapsPassphrase, H
 use Rattle.age_protocol.proofs.Belonging.{any_decrypts, hold_answers}
 
 -- the identity belongs to the only recipient
-pub opened_by_knowing : {S : Type 0} (suite : Ghosts S) → IsCipher suite.seal_of suite.opened → IsStretching suite.stretch_of suite.accepts → PassphraseDecrypts suite
-opened_by_knowing suite cipher stretching recipient identity draws left file plain text bytes some most meant prepares is_file plain_bytes within last =
+pub opened_by_knowing : {S : Type 0} (suite : Ghosts S) → IsCipher suite.seal_of suite.opened → IsStretching suite.stretch_of suite.accepts
+    → PassphraseDecrypts suite
+opened_by_knowing suite cipher stretching recipient identity draws left file plain text bytes some most meant prepares is_file plain_bytes within
+    last =
     any_decrypts (WrapsPassphrase suite) (UnwrapsPassphrase suite) suite.seal_of _ identity None draws left file plain text
     (record {
       is_strange = has_other_tag;
@@ -55,7 +57,8 @@ draw_given (Some bytes) goes_on draws left x next = (bytes, next)
 -- ---- one recipient of a passphrase
 
 -- a step that would end in a value ends in a refusal: memory was refused
-ended_refused : {A : Type 0} (x : A) (draws left : List ℕ) (e : EncryptRefusal) → UnlessNoMemory {A = A} (Ends (Ok x) draws (Err e) left) draws (Err e) left → e ≡ OutOfMemory
+ended_refused : {A : Type 0} (x : A) (draws left : List ℕ) (e : EncryptRefusal)
+    → UnlessNoMemory {A = A} (Ends (Ok x) draws (Err e) left) draws (Err e) left → e ≡ OutOfMemory
 ended_refused x draws left e (inl ended) = no_refusal x e (sym ended.0)
 ended_refused {A} x draws left e (inr want) = same_refusal {A = A} e OutOfMemory want.0
 
@@ -66,7 +69,8 @@ factor_refused true made draws left e h = inr (ended_refused made draws left e h
 factor_refused false made draws left e ended = inl (same_refusal {A = Wrapped} e WorkFactorRefused ended.0, refl)
 
 -- what is wrapped under a passphrase is kept as it is: its label is a string
-judged_alone : (wrapped : Wrapped) (s : StanzaValue) (label : List ℕ) → AreBytesOf 24 label → wrapped.stanzas ≡ s ∷ [] → wrapped.labels ≡ columns label ∷ []
+judged_alone : (wrapped : Wrapped) (s : StanzaValue) (label : List ℕ) → AreBytesOf 24 label → wrapped.stanzas ≡ s ∷ []
+    → wrapped.labels ≡ columns label ∷ []
     → judged nothing_yet (Ok wrapped) ≡ Ok (record { labels = Some (columns label ∷ []); stanzas = s ∷ [] })
 judged_alone wrapped s label h stanzas labels = rw (stanzas, labels, columns-tested 24 label (omega arith) h) refl
 
@@ -88,7 +92,8 @@ module _ {S : Type 0} (suite : Ghosts S) (recipient : PassphraseRecipient) where
       elim (draw_refused Wrapped (taken 16 draws) (λ salt. WithDrawn 24 (Wraps file_key salt) between (Err e) left) draws left e h) [
         | inl short ↦ inl short
         | inr (salt, next) ↦
-            elim (draw_refused Wrapped (taken 24 between) (λ label. Wraps file_key salt label (left_after 24 between) (Err e) left) between left e next) [
+            elim (draw_refused Wrapped (taken 24 between)
+            (λ label. Wraps file_key salt label (left_after 24 between) (Err e) left) between left e next) [
               | inl short ↦ inl short
               | inr (label, wraps) ↦ inr (factor_refused (suite.accepts recipient.factor) _ _ left e wraps.3)
             ]
@@ -104,11 +109,13 @@ module _ {S : Type 0} (suite : Ghosts S) (recipient : PassphraseRecipient) where
     stanzas : wrapped.stanzas ≡ stanza file_key salt ∷ []
     labels : wrapped.labels ≡ columns label ∷ []
 
-  wrap_given : (file_key draws left : List ℕ) (wrapped : Wrapped) → WrapsPassphrase suite recipient file_key draws (Ok wrapped) left → Wrote file_key wrapped
+  wrap_given : (file_key draws left : List ℕ) (wrapped : Wrapped) → WrapsPassphrase suite recipient file_key draws (Ok wrapped) left
+      → Wrote file_key wrapped
   wrap_given file_key draws left wrapped h =
       let between = left_after 16 draws in
       let (drawn, next) = draw_given (taken 16 draws) (λ salt. WithDrawn 24 (Wraps file_key salt) between (Ok wrapped) left) draws left wrapped h in
-      let (more, wraps) = draw_given (taken 24 between) (λ label. Wraps file_key drawn label (left_after 24 between) (Ok wrapped) left) between left wrapped next in
+      let (more, wraps) = draw_given (taken 24 between)
+      (λ label. Wraps file_key drawn label (left_after 24 between) (Ok wrapped) left) between left wrapped next in
       let (takes, is) = was_accepted (suite.accepts recipient.factor) _ wrapped (was_due _ _ left wrapped wraps.3) in
       record {
         accepted = takes;
@@ -122,7 +129,8 @@ module _ {S : Type 0} (suite : Ghosts S) (recipient : PassphraseRecipient) where
 
   -- ---- the file
 
-  turn_refused : (file_key draws between left : List ℕ) (e : EncryptRefusal) (answer : WrapAnswer) → WrapsPassphrase suite recipient file_key draws answer between
+  turn_refused : (file_key draws between left : List ℕ) (e : EncryptRefusal) (answer : WrapAnswer)
+      → WrapsPassphrase suite recipient file_key draws answer between
       → After (judged nothing_yet answer) (λ more. Ends (Ok more)) between (Err e) left → IsCause e
   turn_refused file_key draws between left e (Err f) wraps ended =
       subst IsCause (sym (same_refusal {A = Gathered} e f ended.0)) (wrap_refused file_key draws between f wraps)
@@ -131,11 +139,13 @@ module _ {S : Type 0} (suite : Ghosts S) (recipient : PassphraseRecipient) where
       let kept = rw (judged_alone wrapped _ wrote.label wrote.label_bytes wrote.stanzas wrote.labels) at after in
       inr (inr (ended_refused _ between left e kept))
 
-  nonce_refused : (file_key draws left : List ℕ) (stanzas : List StanzaValue) (e : EncryptRefusal) → PreparesNonce file_key stanzas draws (Err e) left → IsCause e
+  nonce_refused : (file_key draws left : List ℕ) (stanzas : List StanzaValue) (e : EncryptRefusal)
+      → PreparesNonce file_key stanzas draws (Err e) left → IsCause e
   nonce_refused file_key draws left stanzas e h =
       let between = left_after 16 draws in
       elim (draw_refused Prepared (taken 16 draws)
-      (λ nonce. UnlessNoMemory (Ends (Ok (record { file_key = file_key; stanzas = stanzas; nonce = nonce })) between (Err e) left) between (Err e) left) draws left e h) [
+      (λ nonce. UnlessNoMemory (Ends (Ok (record { file_key = file_key; stanzas = stanzas; nonce = nonce })) between (Err e) left) between
+      (Err e) left) draws left e h) [
         | inl short ↦ inl short
         | inr (nonce, next) ↦ inr (inr (ended_refused _ between left e next))
       ]
@@ -147,13 +157,15 @@ module _ {S : Type 0} (suite : Ghosts S) (recipient : PassphraseRecipient) where
 
   -- all that was gathered is the recipient's stanza, which is kept alone
   gathered_refused : (file_key draws between middle left : List ℕ) (e : EncryptRefusal) (answer : WrapAnswer) (all : Gathered)
-      → WrapsPassphrase suite recipient file_key draws answer between → After (judged nothing_yet answer) (λ more. Ends (Ok more)) between (Ok all) middle
+      → WrapsPassphrase suite recipient file_key draws answer between
+      → After (judged nothing_yet answer) (λ more. Ends (Ok more)) between (Ok all) middle
       → PreparesRest file_key None all middle (Err e) left → IsCause e
   gathered_refused file_key draws between middle left e (Err f) all wraps ended rest = no_refusal all f ended.0
   gathered_refused file_key draws between middle left e (Ok wrapped) all wraps after rest =
       let wrote = wrap_given file_key draws between wrapped wraps in
       let kept = rw (judged_alone wrapped _ wrote.label wrote.label_bytes wrote.stanzas wrote.labels) at after in
-      let is : all ≡ record { labels = Some (columns wrote.label ∷ []); stanzas = stanza file_key wrote.salt ∷ [] } = sym (same_value _ all (was_due (Ok _) between middle all kept)) in
+      let is : all ≡ record { labels = Some (columns wrote.label ∷ []); stanzas = stanza file_key wrote.salt ∷ [] } =
+      sym (same_value _ all (was_due (Ok _) between middle all kept)) in
       rest_refused file_key middle left (stanza file_key wrote.salt ∷ []) e (rw is at rest)
 
   outcome_refused : (file_key draws middle left : List ℕ) (e : EncryptRefusal) (gathered : Result Gathered EncryptRefusal)
@@ -166,7 +178,8 @@ module _ {S : Type 0} (suite : Ghosts S) (recipient : PassphraseRecipient) where
   refused : (draws left : List ℕ) (e : EncryptRefusal) → Prepares (WrapsPassphrase suite) (recipient ∷ []) None draws (Err e) left → IsCause e
   refused draws left e h =
       let between = left_after 16 draws in
-      elim (draw_refused Prepared (taken 16 draws) (λ file_key. PreparesWith (WrapsPassphrase suite) (recipient ∷ []) None file_key between (Err e) left) draws left e h) [
+      elim (draw_refused Prepared (taken 16 draws)
+      (λ file_key. PreparesWith (WrapsPassphrase suite) (recipient ∷ []) None file_key between (Err e) left) draws left e h) [
         | inl short ↦ inl short
         | inr (file_key, next) ↦ outcome_refused file_key between next.1 left e next.0 next.2 next.3
       ]

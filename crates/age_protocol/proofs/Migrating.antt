@@ -30,7 +30,8 @@ use Rattle.age_protocol.proofs.Accepted.{ReadsAlone, HasOneVerdict, BeginsAs, Is
 use Rattle.age_protocol.specs.declared.migrate.OldFront.{OldFront}
 
 -- A file key was answered, under which the MAC is right, and this text is what stands before the payload.
-pub record IsUnder {I R : Type 0} (unwraps : I → List StanzaValue → UnwrapAnswer → I → Type 0) (read : ReadGhosts R) (before later : List I) (input after : R)
+pub record IsUnder {I R : Type 0} (unwraps : I → List StanzaValue → UnwrapAnswer → I → Type 0) (read : ReadGhosts R) (before later : List I)
+    (input after : R)
     (h : OldHeaderValue) (nonce text : List ℕ) : Type 0 where
   pub key : List ℕ
   pub asks : AsksOld unwraps read before later input h nonce after (Some (Ok key))
@@ -38,9 +39,11 @@ pub record IsUnder {I R : Type 0} (unwraps : I → List StanzaValue → UnwrapAn
   pub front : text ≡ file_front key h.stanzas nonce
 
 module _ {I R : Type 0} (unwraps : I → List StanzaValue → UnwrapAnswer → I → Type 0) (read : ReadGhosts R) (before later : List I) (input after : R)
-    (f : OldFront) (text : List ℕ) (new : HeaderValue) (is : text ≡ header_text new.stanzas new.mac ++ f.nonce) (begins : ReadsOldFrontOf read input after (Ok f)) where
+    (f : OldFront) (text : List ℕ) (new : HeaderValue) (is : text ≡ header_text new.stanzas new.mac ++ f.nonce)
+    (begins : ReadsOldFrontOf read input after (Ok f)) where
   -- so it is once the header was rewritten
-  pub is_under : (answer : UnwrapAnswer) → FirstThatAnswers (λ identity own next. Unwraps unwraps identity f.header.stanzas own next) before answer later
+  pub is_under : (answer : UnwrapAnswer) → FirstThatAnswers
+      (λ identity own next. Unwraps unwraps identity f.header.stanzas own next) before answer later
       → Rewrites (decided answer) f.header (Ok new) → IsUnder unwraps read before later input after f.header f.nonce text
   unfolding file_front
   is_under None first none = absurd none
@@ -82,16 +85,20 @@ copy_refuses reads refuses input after old middle size Told Here Size e fewer na
 copy_refuses reads refuses input after old middle size Told Here Size e fewer narrows here (inl (inr (inl tried))) = inr (inl (fewer e tried))
 copy_refuses reads refuses input after old middle size Told Here Size e fewer narrows here (inl (inr (inr ((n, writes), most)))) =
     inr (inr (inl (size + n, narrows n e writes)))
-copy_refuses reads refuses input after old middle size Told Here Size e fewer narrows here (inr (long, none)) = inr (inr (inr (long, λ told. none (here told))))
+copy_refuses reads refuses input after old middle size Told Here Size e fewer narrows here (inr (long, none)) =
+    inr (inr (inr (long, λ told. none (here told))))
 
 -- an old file begins with its header and its nonce
-pub begins_old : (seal_of : Seal) (file_key : List ℕ) (stanzas : List StanzaValue) (plain bytes : List ℕ) (is : IsOldFileOf seal_of file_key stanzas plain bytes)
+pub begins_old : (seal_of : Seal) (file_key : List ℕ) (stanzas : List StanzaValue) (plain bytes : List ℕ)
+    (is : IsOldFileOf seal_of file_key stanzas plain bytes)
     → BeginsAs or_legacy is.text stanzas is.mac is.nonce (payload seal_of (payload_key file_key is.nonce) plain) bytes
 begins_old seal_of file_key stanzas plain bytes is = record { header = is.header; rule = is.rule; sixteen = is.sixteen; whole = is.whole }
 
 -- what it becomes is a file
-pub becomes_file : ((key text : List ℕ) → AreBytesOf 32 (hmac_of key text)) → (seal_of : Seal) (file_key : List ℕ) (stanzas : List StanzaValue) (plain bytes : List ℕ)
-    (is : IsOldFileOf seal_of file_key stanzas plain bytes) → IsFileOf seal_of file_key stanzas plain (file_text seal_of file_key stanzas is.nonce plain)
+pub becomes_file : ((key text : List ℕ) → AreBytesOf 32 (hmac_of key text))
+    → (seal_of : Seal) (file_key : List ℕ) (stanzas : List StanzaValue) (plain bytes : List ℕ)
+    (is : IsOldFileOf seal_of file_key stanzas plain bytes)
+    → IsFileOf seal_of file_key stanzas plain (file_text seal_of file_key stanzas is.nonce plain)
 unfolding header_mac
 becomes_file mac_bytes seal_of file_key stanzas plain bytes is =
     let header = header_of or_legacy is.text stanzas is.mac is.header in record {
@@ -102,13 +109,16 @@ becomes_file mac_bytes seal_of file_key stanzas plain bytes is =
       whole = refl;
     }
 
-module _ {I R W T : Type 0} (alone : ReadsAlone) (one : HasOneVerdict) (mac_bytes : (key text : List ℕ) → AreBytesOf 32 (hmac_of key text)) (seal_of : Seal)
-    (unwraps : I → List StanzaValue → UnwrapAnswer → I → Type 0) (read : ReadGhosts R) (write : WriteGhosts W) (nothing : (w : W) → write.appended w [] w)
+module _ {I R W T : Type 0} (alone : ReadsAlone) (one : HasOneVerdict) (mac_bytes : (key text : List ℕ) → AreBytesOf 32 (hmac_of key text))
+    (seal_of : Seal)
+    (unwraps : I → List StanzaValue → UnwrapAnswer → I → Type 0) (read : ReadGhosts R) (write : WriteGhosts W)
+    (nothing : (w : W) → write.appended w [] w)
     (before later : List I) (input last : R) (old new : W) (result : Result T DecryptError)
     (migrates : Migrates unwraps read write before later input last old new result)
     (told : IsTrue (read.tells input)) (well : IsTrue (read.rest input).ends_well) (writer_told : IsTrue (write.tells old))
     (file_key : List ℕ) (stanzas : List StanzaValue) (plain : List ℕ) (is : IsOldFileOf seal_of file_key stanzas plain (read.rest input).bytes)
-    (for : (answer : UnwrapAnswer) → FirstAnswer unwraps before stanzas answer → (answer ≡ Some (Ok file_key)) ⊎ (answer ≡ Some (Err OutOfMemory))) where
+    (for : (answer : UnwrapAnswer) → FirstAnswer unwraps before stanzas answer
+    → (answer ≡ Some (Ok file_key)) ⊎ (answer ≡ Some (Err OutOfMemory))) where
   abbrev sealed : List ℕ
   sealed = payload seal_of (payload_key file_key is.nonce) plain
 
@@ -147,7 +157,8 @@ module _ {I R W T : Type 0} (alone : ReadsAlone) (one : HasOneVerdict) (mac_byte
     right_old : (answer : UnwrapAnswer) → AsksOld unwraps read before later input h nonce rest answer → h.mac ≡ header_mac file_key h.covered
     right_old answer asks =
         let same = back answer asks in
-        same.mac_is ∙ is.right ∙ ap (λ t. header_mac file_key (covered t)) (sym same.text_is) ∙ ap (λ c. header_mac file_key c) (sym (asks.front told).told)
+        same.mac_is ∙ is.right ∙ ap (λ t. header_mac file_key (covered t)) (sym same.text_is)
+        ∙ ap (λ c. header_mac file_key c) (sym (asks.front told).told)
 
     refused_asked : (answer : UnwrapAnswer) (refusal : DecryptRefusal) → AsksOld unwraps read before later input h nonce rest answer
         → RefusesOld (decided answer) h refusal → refusal ≡ OutOfMemory
@@ -183,8 +194,12 @@ module _ {I R W T : Type 0} (alone : ReadsAlone) (one : HasOneVerdict) (mac_byte
   refused_alone quiet =
       IfErr-weaker result _ _
       (λ e why. elim why [
-        | inl (same, none, refuses) ↦
-            (io.OutOfMemory, front_accepted alone one or_legacy is.text stanzas is.mac is.nonce sealed _ _ _ _ _ _ (decrypt_refusal e) begun quiet (refuses.why told), inl refl)
+        | inl (same, none, refuses) ↦ (
+          io.OutOfMemory,
+          front_accepted alone one or_legacy is.text stanzas is.mac is.nonce sealed _ _ _ _ _ _ (decrypt_refusal e) begun quiet
+              (refuses.why told),
+          inl refl,
+        )
         | inr (inl (none, asked)) ↦
             let (h, nonce, answer, asks, because) = asked in
             (io.OutOfMemory, refused_asked h nonce last answer (decrypt_refusal e) asks because, inl refl)

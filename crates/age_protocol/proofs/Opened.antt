@@ -47,7 +47,8 @@ module _ {S R : Type 0} {suite : SuiteGhosts S} {read : Ghosts R} where
   decided_key (Some (Ok key)) h nonce input r (inr right) = (key, refl, right.1)
 
   -- the reader that was given met an end that isn't clean
-  pub refuses_payload : (file : List ℕ) (file_key : List ℕ) (h : HeaderValue) (nonce : List ℕ) (input : R) (r : StreamReader S R suite read) (e : Error)
+  pub refuses_payload : (file : List ℕ) (file_key : List ℕ) (h : HeaderValue) (nonce : List ℕ) (input : R) (r : StreamReader S R suite read)
+      (e : Error)
       → OpensFile file_key h nonce input r → (IsDevice e → ⊥) → (e ≢ io.OutOfMemory → (plain_rest_of r).ends_well ≡ false)
       → RefusesReading file e ⊎ Stops suite.seal_of (payload_key file_key nonce) (read.rest input) (Unit {0}) e
       → LacksPayload suite.seal_of file (payload_key file_key nonce) (read.rest input) (decrypt_refusal (decrypt_of_io e))
@@ -63,7 +64,8 @@ module _ {S R : Type 0} {suite : SuiteGhosts S} {read : Ghosts R} where
   }
 
 -- no reader was given
-pub rest_of_key : (seal_of : Seal) (file : List ℕ) (key : Result (List ℕ) DecryptRefusal) (h : HeaderValue) (nonce : List ℕ) (left : Stretch) (e : DecryptRefusal)
+pub rest_of_key : (seal_of : Seal) (file : List ℕ) (key : Result (List ℕ) DecryptRefusal) (h : HeaderValue) (nonce : List ℕ) (left : Stretch)
+    (e : DecryptRefusal)
     → RefusesKey key h e → RefusesRest seal_of file key h nonce left e
 rest_of_key seal_of file (Err own) h nonce left e why = why
 rest_of_key seal_of file (Ok key) h nonce left e (inl wrong) = inl wrong

@@ -47,7 +47,8 @@ module _ {I S T : Type 0} (suite : SuiteMembers S) (read : ReadMembers T) (unwra
     (accepted : RefusesNoFile read) (opens : FileOpens suite.seal_of) (is_content : FileIsContent suite read) (old new : List I) (text : T)
     (told : IsTrue (read.tells text && read.steady text)) (well : IsTrue (read.rest text).ends_well) (plain : List ℕ)
     (for : IsFileFor suite.seal_of (FirstAnswer unwraps old) plain (read.rest text).bytes) where
-  right_key : (h : HeaderValue) (e : DecryptRefusal) (answer : UnwrapAnswer) → h.mac ≡ header_mac for.file_key (covered_text h.stanzas) → RefusesKey (decided answer) h e
+  right_key : (h : HeaderValue) (e : DecryptRefusal) (answer : UnwrapAnswer) → h.mac ≡ header_mac for.file_key (covered_text h.stanzas)
+      → RefusesKey (decided answer) h e
       → (answer ≡ Some (Ok for.file_key)) ⊎ (answer ≡ Some (Err OutOfMemory)) → e ≡ OutOfMemory
   right_key h e answer right why (inl is) = elim (rw is at why) [
     | inl wrong ↦ absurd (wrong.0 right)
@@ -55,7 +56,8 @@ module _ {I S T : Type 0} (suite : SuiteMembers S) (read : ReadMembers T) (unwra
   ]
   right_key h e answer right why (inr is) = rw is at why
 
-  same_key : (file_key : List ℕ) → Path UnwrapAnswer (Some (Ok file_key)) (Some (Ok for.file_key)) ⊎ Path UnwrapAnswer (Some (Ok file_key)) (Some (Err OutOfMemory))
+  same_key : (file_key : List ℕ) → Path UnwrapAnswer (Some (Ok file_key)) (Some (Ok for.file_key))
+      ⊎ Path UnwrapAnswer (Some (Ok file_key)) (Some (Err OutOfMemory))
       → file_key ≡ for.file_key
   same_key file_key (inl is) = cc
   same_key file_key (inr is) = absurd (Prim.cc)
@@ -67,14 +69,18 @@ module _ {I S T : Type 0} (suite : SuiteMembers S) (read : ReadMembers T) (unwra
   stands_or_want (Ok stream) is none =
       let asks = is.asks in
       let front = asks.front (and-left _ _ told) in
-      let (stanzas_are, right, nonce_is, left, end) = opens (read.rest text) (read.rest is.input) (read.place text) (read.place is.input) is.h is.nonce for.file_key for.stanzas plain front for.is_file in
+      let (stanzas_are, right, nonce_is, left, end) =
+      opens (read.rest text) (read.rest is.input) (read.place text)
+      (read.place is.input) is.h is.nonce for.file_key for.stanzas plain front for.is_file in
       let key = same_key is.file_key (for.right (Some (Ok is.file_key)) (new, rw stanzas_are at asks.first)) in
-      is_content (read.rest text) (read.place text) is.h is.nonce for.file_key for.stanzas plain is.input stream front for.is_file for.bytes for.within for.last well
+      is_content (read.rest text) (read.place text) is.h is.nonce for.file_key for.stanzas plain is.input stream front for.is_file for.bytes
+      for.within for.last well
       (both_told _ _ _ _ asks.same.tells asks.same.steady told) (rw key at is.opens)
   stands_or_want (Err e) none (inl (same, (last, refuses))) = λ still.
       accepted text last (decrypt_refusal e) _ _ _ _ refuses (and-left _ _ told) (never_fails read.faults text last still)
       (begins suite.seal_of for.file_key for.stanzas plain (read.rest text).bytes for.is_file)
   stands_or_want (Err e) none (inr (h, nonce, input, answer, asks, why)) = λ still.
       let front = asks.front (and-left _ _ told) in
-      let (stanzas_are, right, nonce_is, left, end) = opens (read.rest text) (read.rest input) (read.place text) (read.place input) h nonce for.file_key for.stanzas plain front for.is_file in
+      let (stanzas_are, right, nonce_is, left, end) =
+      opens (read.rest text) (read.rest input) (read.place text) (read.place input) h nonce for.file_key for.stanzas plain front for.is_file in
       right_key h (decrypt_refusal e) answer right why (for.right answer (new, rw stanzas_are at asks.first))

@@ -18,7 +18,6 @@ use Rattle.age_io.specs.Copying.{AppendsFront, AppendsSome}
 use Rattle.age_error.specs.declared.io.SeekFrom.TheVariants.{Start}
 use Rattle.std.proofs.lemmas.Bool.{leb-false}
 use Rattle.age_format.specs.HeaderV1.{HeaderValue}
-use Rattle.age_stream.specs.Keeping.{IsPayloadRefusal}
 use Rattle.age_v1.specs.PayloadTargets.{in_length, sought_in}
 use Rattle.age_v1.specs.Payload.{Seal, plain_len}
 use Rattle.age_protocol.specs.Parts.{AppendsPart, AppendsOf, EndsBefore}
@@ -32,7 +31,8 @@ past_or_memory : (e : Error) → (e ≢ io.OutOfMemory → e ≡ io.PastEnd) →
 past_or_memory e why (inl is) = inr is
 past_or_memory e why (inr other) = inl (why other)
 
-module _ {W T : Type 0} (appended : W → List ℕ → W → Type 0) (refuses : W → ℕ → Error → Type 0) (Quiet : Type 0) (place count : ℕ) (plain : List ℕ) where
+module _ {W T : Type 0} (appended : W → List ℕ → W → Type 0) (refuses : W → ℕ → Error → Type 0) (Quiet : Type 0) (place count : ℕ)
+    (plain : List ℕ) where
   -- a refusal before anything was appended
   pub refused_before : (w : W) (e : DecryptError) → appended w [] w → (Quiet → decrypt_refusal e ≡ OutOfMemory)
       → AppendsPart {T = T} appended refuses Quiet place count plain w w (Err (Decrypt e))
@@ -131,7 +131,8 @@ module _ {W T : Type 0} (appended : W → List ℕ → W → Type 0) (refuses : 
     inside = λ calm within. done.inside (by calm) within;
   }
 
-want_alone : (e : Error) (well : Bool) → IsTrue well → (e ≢ io.OutOfMemory → well ≡ false) → (e ≡ io.OutOfMemory) ⊎ (e ≢ io.OutOfMemory) → e ≡ io.OutOfMemory
+want_alone : (e : Error) (well : Bool) → IsTrue well → (e ≢ io.OutOfMemory → well ≡ false) → (e ≡ io.OutOfMemory) ⊎ (e ≢ io.OutOfMemory)
+    → e ≡ io.OutOfMemory
 want_alone e well is cause (inl memory) = memory
 want_alone e well is cause (inr other) =
     let badly : true ≡ false = sym is ∙ cause other in
@@ -141,16 +142,19 @@ want_alone e well is cause (inr other) =
 pub memory_only : (e : Error) (Quiet : Type 0) (well : Bool) → IsTrue well → (e ≢ io.OutOfMemory → Quiet → well ≡ false) → Quiet → e ≡ io.OutOfMemory
 memory_only e Quiet well is cause quiet = want_alone e well is (λ other. cause other quiet) (memory_or_not e)
 
-pub file_for : (seal_of : Seal) (answers : List StanzaValue → UnwrapAnswer → Type 0) (plain text other : List ℕ) → text ≡ other → IsFileFor seal_of answers plain text → IsFileFor seal_of answers plain other
+pub file_for : (seal_of : Seal) (answers : List StanzaValue → UnwrapAnswer → Type 0) (plain text other : List ℕ) → text ≡ other
+    → IsFileFor seal_of answers plain text → IsFileFor seal_of answers plain other
 file_for seal_of answers plain text other is for = subst (λ (l : List ℕ). IsFileFor seal_of answers plain l) is for
 
 -- ---- why it is refused
 
-by_place : (within : Bool) (place : ℕ) (e : Error) → ◌≡◌ {A = Result ℕ Error} (if within then Ok place else Err io.PastEnd) (Err e) → (within ≡ false) × (e ≡ io.PastEnd)
+by_place : (within : Bool) (place : ℕ) (e : Error) → ◌≡◌ {A = Result ℕ Error} (if within then Ok place else Err io.PastEnd) (Err e)
+    → (within ≡ false) × (e ≡ io.PastEnd)
 by_place true place e is = absurd (Prim.cc)
 by_place false place e is = (refl, Prim.cc)
 
-by_limit : (fits : Bool) (place len : ℕ) (e : Error) → IsOutside e → ◌≡◌ {A = Result ℕ Error} (if fits then moved_to (Some place) len else Err io.TooLong) (Err e) → (e ≡ io.PastEnd) × (len < place)
+by_limit : (fits : Bool) (place len : ℕ) (e : Error) → IsOutside e
+    → ◌≡◌ {A = Result ℕ Error} (if fits then moved_to (Some place) len else Err io.TooLong) (Err e) → (e ≡ io.PastEnd) × (len < place)
 by_limit true place len e outside is = let (past, same) = by_place (nat_le place len) place e is in (same, leb-false place len past)
 by_limit false place len e outside is = let same : io.TooLong ≡ e = Prim.cc in absurd (subst IsOutside (sym same) outside)
 
@@ -168,19 +172,16 @@ ends_before sealed place stood e outside is =
     let found = by_length (plain_len (length sealed.bytes)) place stood e outside is in
     (found.0, record { len = found.1.0; plain = found.1.1; short = found.1.2 })
 
--- what is wrong with a payload or a text isn't that a target is outside
-pub payload_inside : (e : Error) → IsPayloadRefusal e → IsOutside e → ⊥
-payload_inside io.BeforeStart says outside = says
-payload_inside io.PastEnd says outside = says
-payload_inside _ says outside = outside
-
 -- what holds of what was appended
 pub some_holds : {W : Type 0} (appended : W → List ℕ → W → Type 0) (count : ℕ) (Holds More : List ℕ → Type 0) (old new : W)
     → ((out : List ℕ) → Holds out → More out) → AppendsSome appended count Holds old new → AppendsSome appended count More old new
-some_holds appended count Holds More old new wider some = record { out = some.out; most = some.most; holds = wider some.out some.holds; done = some.done }
+some_holds appended count Holds More old new wider some =
+    record { out = some.out; most = some.most; holds = wider some.out some.holds; done = some.done }
 
-pub of_holds : {W : Type 0} (begins : HeaderValue → List ℕ → Stretch → Type 0) (gives : List ℕ → List StanzaValue → Type 0) (appended : W → List ℕ → W → Type 0) (count : ℕ)
-    (Holds More : List ℕ → Stretch → List ℕ → Type 0) (old new : W) → ((key : List ℕ) (sealed : Stretch) (out : List ℕ) → Holds key sealed out → More key sealed out)
+pub of_holds : {W : Type 0} (begins : HeaderValue → List ℕ → Stretch → Type 0) (gives : List ℕ → List StanzaValue → Type 0)
+    (appended : W → List ℕ → W → Type 0) (count : ℕ)
+    (Holds More : List ℕ → Stretch → List ℕ → Type 0) (old new : W)
+    → ((key : List ℕ) (sealed : Stretch) (out : List ℕ) → Holds key sealed out → More key sealed out)
     → AppendsOf begins gives appended count Holds old new → AppendsOf begins gives appended count More old new
 of_holds begins gives appended count Holds More old new wider some =
     under_mac begins begins (λ h nonce left begun. begun) gives gives _ _ (λ key stanzas given. given)

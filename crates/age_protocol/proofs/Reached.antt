@@ -29,7 +29,8 @@ module _ {S R : Type 0} (suite : SuiteGhosts S) (read : Ghosts R) where
       let rest : read.rest input ≡ whole (payload suite.seal_of key plain) =
       stretch-ext (read.rest input) (whole (payload suite.seal_of key plain)) left (end ∙ well) in
       let reader = opened.reader in
-      let here = reader.honest plain bytes within (subst (λ n. LastIsNoMiddle suite.seal_of (payload_key file_key n) plain) (sym nonce_is) last) rest in
+      let here = reader.honest plain bytes within
+      (subst (λ n. LastIsNoMiddle suite.seal_of (payload_key file_key n) plain) (sym nonce_is) last) rest in
       let whole_inner = reached (read.content input) (read.rest input) (read.place input) (payload suite.seal_of key plain) rest
       (stands input (and-left _ _ told) (and-right _ _ told)).reaches in
       record {

@@ -22,7 +22,8 @@ use Rattle.age_protocol.specs.Decrypting.{ReadsFront}
 use Rattle.age_protocol.specs.WholeFiles.{RefusesReading}
 
 -- from the reader of a payload to the reader of the text that it was in
-pub from_stream : {S A : Type 0} (refuses : S → Error → Type 0) (below : A → Error → Type 0) (Own : Error → Type 0) (stream : S) (input text : A) (e : Error)
+pub from_stream : {S A : Type 0} (refuses : S → Error → Type 0) (below : A → Error → Type 0) (Own : Error → Type 0) (stream : S) (input text : A)
+    (e : Error)
     → ((e : Error) → refuses stream e → Own e ⊎ TriedAgain below input e) → (Own (Device Interrupted) → ⊥)
     → AddsNoReason (TriedAgain below) text input → TriedAgain refuses stream e → Own e ⊎ TriedAgain below text e
 from_stream refuses below Own stream input text e named patient narrows h =
@@ -35,7 +36,8 @@ from_stream refuses below Own stream input text e named patient narrows h =
 pub from_text : {A R : Type 0} (refuses : A → Error → Type 0) (read : Ghosts R) (text : A) (reader : R) (e : Error)
     → ((e : Error) → refuses text e → OrText read reader e) → TriedAgain refuses text e → OrText read reader e
 from_text refuses read text reader e named h =
-    tried-own read.refuses (IsOwnRefusal (read.tells reader) (read.steady reader) (text_outcome (read.content reader) (read.place reader)).ending) reader e (λ is. is)
+    tried-own read.refuses (IsOwnRefusal (read.tells reader) (read.steady reader) (text_outcome (read.content reader) (read.place reader)).ending)
+    reader e (λ is. is)
     (tried-more refuses (OrText read) text reader named e h)
 
 -- a reader that never refuses has no reason
@@ -101,6 +103,7 @@ io_refusal_weaker Holds More wider (Io e) h = wider e h
 io_refusal_weaker Holds More wider _ h = tt
 
 -- what holds of a refusal holds of a result that is this refusal
-pub refused_as : {T E : Type 0} (Holds : Result T E → Type 0) (result : Result T E) (e : E) → IsErrAnd result (λ x. x ≡ e) → Holds (Err e) → Holds result
+pub refused_as : {T E : Type 0} (Holds : Result T E → Type 0) (result : Result T E) (e : E) → IsErrAnd result (λ x. x ≡ e) → Holds (Err e)
+    → Holds result
 refused_as Holds (Ok x) e is h = absurd is
 refused_as Holds (Err x) e is h = subst (λ y. Holds (Err y)) (sym is) h

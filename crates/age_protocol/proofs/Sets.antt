@@ -23,7 +23,8 @@ below_map x [] h = tt
 below_map x (y ∷ ys) h = (h.0, below_map x ys h.1)
 
 -- the labels of an ordered set ascend
-ascends : {Z : Type 0} (xs : List (String Z)) → IsStrictlySortedBy string_cmp xs → IsStrictlySortedBy (slice_cmp nat_cmp) (map (λ l. string_bytes l) xs)
+ascends : {Z : Type 0} (xs : List (String Z)) → IsStrictlySortedBy string_cmp xs
+    → IsStrictlySortedBy (slice_cmp nat_cmp) (map (λ l. string_bytes l) xs)
 unfolding IsStrictlySortedBy
 ascends [] h = tt
 ascends (x ∷ xs) h = (below_map x xs h.0, ascends xs h.1)
@@ -36,7 +37,8 @@ decided : (left right : Labels) → Decides (same_labels left right) (left ≡ r
 decided left right = slice_eq-Decides bytes_eq-Decides left right (same_labels left right) refl
 
 pub are_sets : {Z : Type 0} (left right : BTreeSet (String Z)) → IsOrdered string_cmp left → IsOrdered string_cmp right
-    → IsTrue (same_labels (labels_of left) (labels_of right)) ↔ ((label : List ℕ) → Contains (labels_of left) label ↔ Contains (labels_of right) label)
+    → IsTrue (same_labels (labels_of left) (labels_of right)) ↔
+    ((label : List ℕ) → Contains (labels_of left) label ↔ Contains (labels_of right) label)
 are_sets left right l r = (
   λ same label. let is = (decided (labels_of left) (labels_of right)).0 same in (rw is (λ c. c), rw is (λ c. c)),
   λ each.

@@ -26,7 +26,8 @@ use Rattle.age_protocol.specs.Parts.{AppendsOf, StandsAt, IsPartAt}
 use Rattle.age_protocol.proofs.Texts.{under_mac}
 
 -- the same with other names
-pub stand-moved : (seal_of : Seal) (key key' sealed sealed' : List ℕ) (place place' : ℕ) (bytes : List ℕ) → key' ≡ key → sealed' ≡ sealed → place' ≡ place
+pub stand-moved : (seal_of : Seal) (key key' sealed sealed' : List ℕ) (place place' : ℕ) (bytes : List ℕ) → key' ≡ key → sealed' ≡ sealed
+    → place' ≡ place
     → StandAt seal_of key' sealed' place' bytes → StandAt seal_of key sealed place bytes
 stand-moved seal_of key key' sealed sealed' place place' bytes p q r stands =
     subst (λ (n : ℕ). StandAt seal_of key sealed n bytes) r
@@ -61,7 +62,8 @@ module _ {W : Type 0} (seal_of : Seal) (appended : W → List ℕ → W → Type
   -- and where nothing is missing
   pub given : (rest : Stretch) (old new : W) → StandAt seal_of key sealed.bytes place rest.bytes
       → (rest.ends_well ≡ true → IsGoodEnd seal_of key sealed (place + length rest.bytes))
-      → appended old (take count rest.bytes) new × (length rest.bytes < count → IsTrue rest.ends_well) → AppendsSome appended count (IsPartAt seal_of place count key sealed) old new
+      → appended old (take count rest.bytes) new × (length rest.bytes < count → IsTrue rest.ends_well)
+      → AppendsSome appended count (IsPartAt seal_of place count key sealed) old new
   given rest old new stands good done =
       let long = length-take count rest.bytes in
       record {
@@ -77,7 +79,8 @@ module _ {W : Type 0} (seal_of : Seal) (appended : W → List ℕ → W → Type
       }
 
 -- the same of equal things
-some-same : {W A : Type 0} (appended : W → List ℕ → W → Type 0) (count : ℕ) (Holds : List ℕ → A → List ℕ → Type 0) (key key' : List ℕ) (a b : A) (old new : W)
+some-same : {W A : Type 0} (appended : W → List ℕ → W → Type 0) (count : ℕ) (Holds : List ℕ → A → List ℕ → Type 0) (key key' : List ℕ) (a b : A)
+    (old new : W)
     → key ≡ key' → a ≡ b → AppendsSome appended count (Holds key a) old new → AppendsSome appended count (Holds key' b) old new
 some-same appended count Holds key key' a b old new p q some =
     subst (λ x. AppendsSome appended count (Holds key' x) old new) q (subst (λ (l : List ℕ). AppendsSome appended count (Holds l a) old new) p some)
@@ -117,7 +120,8 @@ module _ {I S T W : Type 0} {suite : SuiteMembers S} {read : ReadMembers T} (unw
         made.opens.right,
         some-same appended count Holds (key_of stream) _ (payload_of stream) (read.rest input) before after made.opens.reader.same_key
             (made.opens.reader.sealed ∙ ap (λ (s : Stretch). from_place (read.place input) s) (made.asks.same.content tells)
-            ∙ left-is (read.content text) (read.rest text) (read.rest input) (read.place text) (read.place input) _ fresh front.took.delivered front.took.moved)
+            ∙ left-is (read.content text) (read.rest text) (read.rest input) (read.place text)
+            (read.place input) _ fresh front.took.delivered front.took.moved)
             some,
       )
 
@@ -141,13 +145,16 @@ module _ {W : Type 0} (begins other : HeaderValue → List ℕ → Stretch → T
 pub fresh-text : (rest content start : Stretch) (place : ℕ) → rest ≡ start → content ≡ start → place ≡ 0 → rest ≡ from_place place content
 fresh-text rest content start place p q r = p ∙ sym (ap (λ n. from_place n content) r ∙ ap (λ s. from_place 0 s) q)
 
-pub begins-same : (a b : Stretch) (n : ℕ) → a ≡ b → n ≡ 0 → (h : HeaderValue) (nonce : List ℕ) (left : Stretch) → HasFront a n h nonce left → HasFront b 0 h nonce left
+pub begins-same : (a b : Stretch) (n : ℕ) → a ≡ b → n ≡ 0 → (h : HeaderValue) (nonce : List ℕ) (left : Stretch) → HasFront a n h nonce left
+    → HasFront b 0 h nonce left
 begins-same a b n p q h nonce left begins =
     subst (λ (s : Stretch). HasFront s 0 h nonce left) p (subst (λ (m : ℕ). HasFront a m h nonce left) q begins)
 
 -- what was read to its end begins as the reader's text does
-pub begins-read : {R : Type 0} (tells : R → Bool) (rest : R → Stretch) (reader : R) (input : List ℕ) → input ≡ (rest reader).bytes → (rest reader).ends_well ≡ true
-    → (h : HeaderValue) (nonce : List ℕ) (left : Stretch) → HasFront (stretch_of (text_delivers input true)) 0 h nonce left → BeginsText tells rest reader h nonce left
+pub begins-read : {R : Type 0} (tells : R → Bool) (rest : R → Stretch) (reader : R) (input : List ℕ) → input ≡ (rest reader).bytes
+    → (rest reader).ends_well ≡ true
+    → (h : HeaderValue) (nonce : List ℕ) (left : Stretch) → HasFront (stretch_of (text_delivers input true)) 0 h nonce left
+    → BeginsText tells rest reader h nonce left
 begins-read tells rest reader input bytes well h nonce left begins = record {
   place = begins.0;
   front = λ told.

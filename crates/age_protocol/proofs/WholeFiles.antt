@@ -13,8 +13,10 @@ use Rattle.age_v1.specs.Claims.{AppendsFile}
 use Rattle.age_protocol.specs.WholeFiles.{IsWritten, Encrypts}
 
 -- what was appended to an empty list is written
-pub is-written : {W : Type 0} (items : W → List ℕ) (seal_of : Seal) (format : Format) (file : Prepared) (input : Stretch) (plain : List ℕ) (old new : W) →
-    input ≡ whole plain → items old ≡ [] → AreBytes plain → AppendsFile seal_of (λ a x b. items b ≡ items a ++ x) (text_of format) file input old new →
+pub is-written : {W : Type 0} (items : W → List ℕ) (seal_of : Seal) (format : Format) (file : Prepared) (input : Stretch) (plain : List ℕ)
+    (old new : W) →
+    input ≡ whole plain → items old ≡ [] → AreBytes plain
+    → AppendsFile seal_of (λ a x b. items b ≡ items a ++ x) (text_of format) file input old new →
     IsWritten seal_of (text_of format) plain file (items new)
 is-written items seal_of format file input plain old new is empty bytes done =
     let same = ap (λ s. s.bytes) is in
@@ -34,7 +36,8 @@ text-encrypted seal_of form plain written (Err refusal) is = absurd (cc)
 text-encrypted seal_of form plain written (Ok file) is = (file_text seal_of file.file_key file.stanzas file.nonce plain, is.text)
 
 -- a refusal is seen as what it says
-pub seen_refusal : {A B E F : Type 0} (of : A → B) (says : E → F) (r : Result A E) (e : E) → IsErrAnd r (λ x. x ≡ e) → result_map_both of says r ≡ Err (says e)
+pub seen_refusal : {A B E F : Type 0} (of : A → B) (says : E → F) (r : Result A E) (e : E) → IsErrAnd r (λ x. x ≡ e)
+    → result_map_both of says r ≡ Err (says e)
 seen_refusal of says (Ok x) e is = absurd is
 seen_refusal of says (Err x) e is = ap (λ y. Err (says y)) is
 

@@ -56,7 +56,8 @@ module _ {W : Type 0} (refuses : W → ℕ → Error → Type 0) (writer : W) wh
   file-through below inner size e through (inr chunk) = inr (through chunk)
 
   pub some-through : {V : Type 0} (below : V → ℕ → Error → Type 0) (inner : V) (told : Type 0) (size : ℕ) (e : Error) →
-      (RefusesChunk below inner e → RefusesChunk refuses writer e) → RefusesSomeFile below inner told size e → RefusesSomeFile refuses writer told size e
+      (RefusesChunk below inner e → RefusesChunk refuses writer e) → RefusesSomeFile below inner told size e
+      → RefusesSomeFile refuses writer told size e
   some-through below inner told size e through (some, known) =
       ((some.0, file-through below inner some.0 e through some.1), λ is. file-through below inner size e through (known is))
 
@@ -106,12 +107,14 @@ module _ {R W : Type 0} (read : Ghosts R) (write : WriteGhosts W) (form : List �
   -- all was, and the writer flushed
   pub made-flushed : ((a b c : W) (x y : List ℕ) → write.appended a x b → write.appended b y c → write.appended a (x ++ y) c) → (between after : W) →
       WritesMade read write form old new before (between, Ok tt) → (result : Result ⊤ Error) →
-      Flushes write.tells write.faults (Retried write.refuses) write.appended between after result → WritesMade read write form old new before (after, result)
+      Flushes write.tells write.faults (Retried write.refuses) write.appended between after result
+      → WritesMade read write form old new before (after, result)
   made-flushed joins between after w (Ok x) flushed = record {
     all = λ read_told told.
         let (well, within, out) = w.all read_told told in
         (well, within, rw append-nil at (joins before between after _ [] out (flushed.nothing (w.same_tells ∙ told))));
-    front = λ read_told told. front-still write.appended joins _ before between after (w.front read_told told) (flushed.nothing (w.same_tells ∙ told));
+    front = λ read_told told. front-still write.appended joins _ before between after (w.front read_told told)
+        (flushed.nothing (w.same_tells ∙ told));
     same_tells = flushed.same_tells ∙ w.same_tells;
     no_fewer_faults = omega (arith, w.no_fewer_faults, flushed.no_fewer_faults);
     refused = tt;
@@ -119,7 +122,8 @@ module _ {R W : Type 0} (read : Ghosts R) (write : WriteGhosts W) (form : List �
   }
   made-flushed joins between after w (Err e) flushed = record {
     all = λ _ _. tt;
-    front = λ read_told told. front-still write.appended joins _ before between after (w.front read_told told) (flushed.nothing (w.same_tells ∙ told));
+    front = λ read_told told. front-still write.appended joins _ before between after (w.front read_told told)
+        (flushed.nothing (w.same_tells ∙ told));
     same_tells = tt;
     no_fewer_faults = tt;
     refused =
@@ -134,7 +138,8 @@ module _ {R W : Type 0} (read : Ghosts R) (write : WriteGhosts W) (form : List �
 
 -- ---- the payload
 
-module _ {S W : Type 0} (refuses : W → ℕ → Error → Type 0) (key : List ℕ) (first : W) (stream : StreamWriter S W) (made : WasMade key first stream) where
+module _ {S W : Type 0} (refuses : W → ℕ → Error → Type 0) (key : List ℕ) (first : W) (stream : StreamWriter S W)
+    (made : WasMade key first stream) where
   stream-refused : (n : ℕ) (e : Error) → Retried (StreamRefused refuses) stream n e → RefusesFile refuses first n e
   stream-refused n e h = Refused-made refuses key first stream n e made
       (retried-plain (StreamRefused refuses) stream n e (λ is. Refused-patient refuses stream n (Device Interrupted) is tt) h)
@@ -150,7 +155,8 @@ module _ {S W : Type 0} (refuses : W → ℕ → Error → Type 0) (key : List �
       reads e ⊎ RefusesSomeFile refuses first told size e
   copy-named reads told size e (inl (inl memory)) = inr (some-chunk refuses first told size e (inl memory))
   copy-named reads told size e (inl (inr (inl why))) = inl why
-  copy-named reads told size e (inl (inr (inr (some, known)))) = inr ((some.0, stream-refused some.0 e some.1), λ is. stream-refused size e (known is))
+  copy-named reads told size e (inl (inr (inr (some, known)))) =
+      inr ((some.0, stream-refused some.0 e some.1), λ is. stream-refused size e (known is))
   copy-named reads told size e (inr (long, never)) = inr ((2 ^ 60 + 1, inl (long, omega arith)), λ is. absurd (never is))
 
   -- after it was
@@ -160,23 +166,27 @@ module _ {S W : Type 0} (refuses : W → ℕ → Error → Type 0) (key : List �
       let again : Retried (StreamRefused refuses) stream (n + 0) e = narrows 0 e (inl (Refused-patient refuses later 0 e h, h)) in
       stream-refused n e (subst (λ k. Retried (StreamRefused refuses) stream k e) (add-zero n) again)
 
-  pub later-some : (told : Type 0) (size : ℕ) (later : StreamWriter S W) → (n : ℕ) × (told → n ≡ size) × Narrows (Retried (StreamRefused refuses)) stream n later →
+  pub later-some : (told : Type 0) (size : ℕ) (later : StreamWriter S W)
+      → (n : ℕ) × (told → n ≡ size) × Narrows (Retried (StreamRefused refuses)) stream n later →
       (e : Error) → StreamRefused refuses later 0 e → RefusesSomeFile refuses first told size e
   later-some told size later (n, joined, narrows) e h =
       let some = later-refused later n narrows e h in
       ((n, some), λ is. subst (λ k. RefusesFile refuses first k e) (joined is) some)
 
-module _ {R S W : Type 0} (seal_of : Seal) (read : Ghosts R) (write : WriteGhosts W) (old new : R) (key : List ℕ) (first : W) (stream : StreamWriter S W)
+module _ {R S W : Type 0} (seal_of : Seal) (read : Ghosts R) (write : WriteGhosts W) (old new : R) (key : List ℕ) (first : W)
+    (stream : StreamWriter S W)
     (made : WasMade key first stream) where
   told-above : IsTrue (write.tells first) → IsTrue (write.tells stream.inner)
   told-above told = ap (λ w. write.tells w) made.same_inner ∙ told
 
   -- copying was refused
   pub copy-cut : (later : StreamWriter S W) (e : Error) → SendsFrontOfPayload {S = S} seal_of write.appended (StreamAppended seal_of write.appended) →
-      (IsTrue (read.tells old) → IsTrue (write.tells stream.inner) → AppendsFront (StreamAppended seal_of write.appended) (read.rest old).bytes stream later) →
+      (IsTrue (read.tells old) → IsTrue (write.tells stream.inner)
+      → AppendsFront (StreamAppended seal_of write.appended) (read.rest old).bytes stream later) →
       (IsTrue (read.tells old) → IsTrue (read.rest old).ends_well → IsQuiet (read.faults old) (read.faults new) →
       OrMemory (Retried (StreamRefused write.refuses)) stream (length (read.rest old).bytes) e) →
-      CopyRefuses (TriedAgain read.refuses old) (RefusesAll (StreamRefused write.refuses) stream (IsTrue (read.tells old)) (length (read.rest old).bytes)) e
+      CopyRefuses (TriedAgain read.refuses old)
+      (RefusesAll (StreamRefused write.refuses) stream (IsTrue (read.tells old)) (length (read.rest old).bytes)) e
       ⊎ ((e ≡ TooLong) × (IsTrue (read.tells old) → ⊥)) →
       (IsDevice e → (read.faults old < read.faults new) ⊎ (write.faults stream.inner < write.faults later.inner)) →
       WritesMade read write (payload seal_of key) old new first (later.inner, Err e)
@@ -184,7 +194,8 @@ module _ {R S W : Type 0} (seal_of : Seal) (read : Ghosts R) (write : WriteGhost
     all = λ _ _. tt;
     front = λ read_told told.
         let f = front read_told (told-above told) in
-        subst (λ l. AppendsFront write.appended (payload seal_of key l) first later.inner) (sym f.joined) (law stream later key f.front f.after first made f.out);
+        subst (λ l. AppendsFront write.appended (payload seal_of key l) first later.inner) (sym f.joined)
+        (law stream later key f.front f.after first made f.out);
     same_tells = tt;
     no_fewer_faults = tt;
     refused = record {
@@ -197,8 +208,10 @@ module _ {R S W : Type 0} (seal_of : Seal) (read : Ghosts R) (write : WriteGhost
 
   module _ (later done : StreamWriter S W) (same_tells : write.tells later.inner ≡ write.tells stream.inner)
       (no_fewer_faults : write.faults stream.inner ≤ write.faults later.inner)
-      (took : IsTrue (read.tells old) → IsTrue (write.tells stream.inner) → IsTrue (read.rest old).ends_well × StreamAppended seal_of write.appended stream (read.rest old).bytes later)
-      (narrows : (n : ℕ) × (IsTrue (read.tells old) → n ≡ length (read.rest old).bytes) × Narrows (Retried (StreamRefused write.refuses)) stream n later) where
+      (took : IsTrue (read.tells old) → IsTrue (write.tells stream.inner)
+      → IsTrue (read.rest old).ends_well × StreamAppended seal_of write.appended stream (read.rest old).bytes later)
+      (narrows : (n : ℕ) × (IsTrue (read.tells old) → n ≡ length (read.rest old).bytes)
+      × Narrows (Retried (StreamRefused write.refuses)) stream n later) where
     some-later : (e : Error) → StreamRefused write.refuses later 0 e →
         RefusesSomeFile write.refuses first (IsTrue (read.tells old)) (length (read.rest old).bytes) e
     some-later e h = later-some write.refuses key first stream made _ _ later narrows e h
@@ -221,11 +234,16 @@ module _ {R S W : Type 0} (seal_of : Seal) (read : Ghosts R) (write : WriteGhost
         WritesMade read write (payload seal_of key) old new first (done.inner, result)
     payload-closed (Ok x) law closes within ends front = record {
       all = λ read_told told.
-          let (well, out) = took read_told (told-above told) in
-          (well, within stream key (read.rest old).bytes first made out, closes (same_tells ∙ told-above told) stream key (read.rest old).bytes first made out);
+          let (well, out) = took read_told (told-above told) in (
+            well,
+            within stream key (read.rest old).bytes first made out,
+            closes (same_tells ∙ told-above told) stream key
+                (read.rest old).bytes first made out,
+          );
       front = λ read_told told.
           let (well, out) = took read_told (told-above told) in
-          law stream later key (read.rest old).bytes first done.inner made out (λ is. ap (λ s. s.inner) (ends.failed is).1) (front (same_tells ∙ told-above told));
+          law stream later key (read.rest old).bytes first done.inner made out (λ is. ap (λ s. s.inner) (ends.failed is).1)
+          (front (same_tells ∙ told-above told));
       same_tells = ends.hands_back.same_tells ∙ same_tells ∙ ap (λ w. write.tells w) made.same_inner;
       no_fewer_faults = omega (arith, first-faults, ends.hands_back.no_fewer_faults);
       refused = tt;
@@ -235,7 +253,8 @@ module _ {R S W : Type 0} (seal_of : Seal) (read : Ghosts R) (write : WriteGhost
       all = λ _ _. tt;
       front = λ read_told told.
           let (well, out) = took read_told (told-above told) in
-          law stream later key (read.rest old).bytes first done.inner made out (λ is. ap (λ s. s.inner) (ends.failed is).1) (front (same_tells ∙ told-above told));
+          law stream later key (read.rest old).bytes first done.inner made out (λ is. ap (λ s. s.inner) (ends.failed is).1)
+          (front (same_tells ∙ told-above told));
       same_tells = tt;
       no_fewer_faults = tt;
       refused =
@@ -247,7 +266,8 @@ module _ {R S W : Type 0} (seal_of : Seal) (read : Ghosts R) (write : WriteGhost
 -- ---- the file
 
 -- after the text before the payload was written
-pub front-narrows : {W : Type 0} (refuses : W → ℕ → Error → Type 0) (old new : W) (m : ℕ) → Narrows (OrMemory (Retried refuses)) old m new → (e : Error) →
+pub front-narrows : {W : Type 0} (refuses : W → ℕ → Error → Type 0) (old new : W) (m : ℕ) → Narrows (OrMemory (Retried refuses)) old m new
+    → (e : Error) →
     RefusesChunk refuses new e → RefusesChunk refuses old e
 front-narrows refuses old new m narrows e (inl memory) = inl memory
 front-narrows refuses old new m narrows e (inr handed) = elim (narrows handed.0 e (inr handed.1)) [
@@ -262,7 +282,8 @@ front-refused refuses writer n e (inl memory) = inl memory
 front-refused refuses writer n e (inr h) = inr (n, h)
 
 module _ {R W : Type 0} (seal_of : Seal) (read : Ghosts R) (write : WriteGhosts W)
-    (joins : (a b c : W) (x y : List ℕ) → write.appended a x b → write.appended b y c → write.appended a (x ++ y) c) (file : Prepared) (old new : R) (output : W) where
+    (joins : (a b c : W) (x y : List ℕ) → write.appended a x b → write.appended b y c → write.appended a (x ++ y) c) (file : Prepared)
+    (old new : R) (output : W) where
   -- the front was refused
   pub front-made : (last : W) (e : Error) → GivesUp write.tells write.faults write.refuses write.appended file output last e →
       WritesMade read write (λ plain. file_text seal_of file.file_key file.stanzas file.nonce plain) old new output (last, Err e)
@@ -271,7 +292,8 @@ module _ {R W : Type 0} (seal_of : Seal) (read : Ghosts R) (write : WriteGhosts 
     all = λ _ _. tt;
     front = λ _ told.
         let (n, most, out) = up.takes_front told in
-        front-more write.appended (file_front file.file_key file.stanzas file.nonce) (payload seal_of (payload_key file.file_key file.nonce) (read.rest old).bytes) output last
+        front-more write.appended (file_front file.file_key file.stanzas file.nonce)
+        (payload seal_of (payload_key file.file_key file.nonce) (read.rest old).bytes) output last
         (front-take write.appended n (file_front file.file_key file.stanzas file.nonce) output last out);
     same_tells = tt;
     no_fewer_faults = tt;
@@ -280,7 +302,8 @@ module _ {R W : Type 0} (seal_of : Seal) (read : Ghosts R) (write : WriteGhosts 
   }
 
   -- the payload was written after it, or refused
-  pub file-made : {S : Type 0} (stream : StreamWriter S W) (starts : Starts write.tells write.faults write.refuses write.appended file output stream) (result : W × Result ⊤ Error) →
+  pub file-made : {S : Type 0} (stream : StreamWriter S W)
+      (starts : Starts write.tells write.faults write.refuses write.appended file output stream) (result : W × Result ⊤ Error) →
       WritesMade read write (λ plain. payload seal_of (payload_key file.file_key file.nonce) plain) old new starts.inner result →
       WritesMade read write (λ plain. file_text seal_of file.file_key file.stanzas file.nonce plain) old new output result
   unfolding file_text
@@ -288,7 +311,8 @@ module _ {R W : Type 0} (seal_of : Seal) (read : Ghosts R) (write : WriteGhosts 
     all = λ read_told told.
         let (ends, within, out) = w.all read_told (starts.same_tells ∙ told) in
         (ends, within, joins output starts.inner last _ _ (starts.front told) out);
-    front = λ read_told told. front-later write.appended joins _ _ output starts.inner last (starts.front told) (w.front read_told (starts.same_tells ∙ told));
+    front = λ read_told told. front-later write.appended joins _ _ output starts.inner last (starts.front told)
+        (w.front read_told (starts.same_tells ∙ told));
     same_tells = w.same_tells ∙ starts.same_tells;
     no_fewer_faults = omega (arith, starts.no_fewer_faults, w.no_fewer_faults);
     refused = tt;
@@ -296,11 +320,14 @@ module _ {R W : Type 0} (seal_of : Seal) (read : Ghosts R) (write : WriteGhosts 
   }
   file-made stream starts (last, Err e) w = record {
     all = λ _ _. tt;
-    front = λ read_told told. front-later write.appended joins _ _ output starts.inner last (starts.front told) (w.front read_told (starts.same_tells ∙ told));
+    front = λ read_told told. front-later write.appended joins _ _ output starts.inner last (starts.front told)
+        (w.front read_told (starts.same_tells ∙ told));
     same_tells = tt;
     no_fewer_faults = tt;
-    refused = writing-through read write old new output last write.refuses starts.inner (write.faults starts.inner < write.faults last) e (starts.narrows e)
-        (λ rose. omega (arith, starts.no_fewer_faults, rose)) w.refused.named w.refused.why (λ read_told told. w.refused.device read_told (starts.same_tells ∙ told));
+    refused = writing-through read write old new output last write.refuses starts.inner (write.faults starts.inner < write.faults last) e
+        (starts.narrows e)
+        (λ rose. omega (arith, starts.no_fewer_faults, rose)) w.refused.named w.refused.why
+        (λ read_told told. w.refused.device read_told (starts.same_tells ∙ told));
     narrows = tt;
   }
 
@@ -308,7 +335,8 @@ module _ {R W : Type 0} (seal_of : Seal) (read : Ghosts R) (write : WriteGhosts 
 
 module _ {R W : Type 0} (read : Ghosts R) (write : WriteGhosts W) (form : List ℕ → List ℕ) (old new : R) (format : Format) (writer : W) where
   -- the text wasn't begun
-  pub text-refused : (back : W) (e : Error) → (IsTrue (write.tells writer) → (bytes : List ℕ) → AppendsFront write.appended (text_of format bytes) writer back) →
+  pub text-refused : (back : W) (e : Error)
+      → (IsTrue (write.tells writer) → (bytes : List ℕ) → AppendsFront write.appended (text_of format bytes) writer back) →
       RefusesChunk write.refuses writer e → (IsDevice e → write.faults writer < write.faults back) →
       WritesMade read write (λ plain. text_of format (form plain)) old new writer (back, Err e)
   text-refused back e front why device = record {
@@ -320,14 +348,16 @@ module _ {R W : Type 0} (read : Ghosts R) (write : WriteGhosts W) (form : List �
     narrows = tt;
   }
 
-  module _ (armored : ArmoredWriter W) (begun : WrapsOutput write writer format (Ok armored)) (law : SendsFrontOfText write.appended (Appended write.appended)) where
+  module _ (armored : ArmoredWriter W) (begun : WrapsOutput write writer format (Ok armored))
+      (law : SendsFrontOfText write.appended (Appended write.appended)) where
     through : (e : Error) → RefusesChunk (ArmorRefused write.refuses) armored e → RefusesChunk write.refuses writer e
     through e (inl memory) = inl memory
     through e (inr h) = inr (handed-through write.refuses (in_armor format) writer armored begun.narrows e h)
 
     -- the file wasn't written whole
     pub text-cut : (last : ArmoredWriter W) (e : Error) →
-        (IsTrue (read.tells old) → IsTrue (write.tells (inner_of armored)) → AppendsFront (Appended write.appended) (form (read.rest old).bytes) armored last) →
+        (IsTrue (read.tells old) → IsTrue (write.tells (inner_of armored))
+        → AppendsFront (Appended write.appended) (form (read.rest old).bytes) armored last) →
         TriedAgain read.refuses old e
         ⊎ RefusesSomeFile (ArmorRefused write.refuses) armored (IsTrue (read.tells old)) (length (read.rest old).bytes) e →
         (IsTrue (read.tells old) → IsTrue (read.rest old).ends_well → IsQuiet (read.faults old) (read.faults new) →
@@ -344,7 +374,8 @@ module _ {R W : Type 0} (read : Ghosts R) (write : WriteGhosts W) (form : List �
       same_tells = tt;
       no_fewer_faults = tt;
       refused = writing-through read write old new writer (inner_of last) (ArmorRefused write.refuses) armored
-          (write.faults (inner_of armored) < write.faults (inner_of last)) e (through e) (λ rose. omega (arith, begun.no_fewer_faults, rose)) named why
+          (write.faults (inner_of armored) < write.faults (inner_of last)) e (through e)
+          (λ rose. omega (arith, begun.no_fewer_faults, rose)) named why
           (λ read_told told. device read_told (begun.same_tells ∙ told));
       narrows = tt;
     }
@@ -352,7 +383,8 @@ module _ {R W : Type 0} (read : Ghosts R) (write : WriteGhosts W) (form : List �
     module _ (last : ArmoredWriter W) (same_tells : write.tells (inner_of last) ≡ write.tells (inner_of armored))
         (no_fewer_faults : write.faults (inner_of armored) ≤ write.faults (inner_of last))
         (took : IsTrue (read.tells old) → IsTrue (write.tells (inner_of armored)) →
-        IsTrue (read.rest old).ends_well × (length (read.rest old).bytes ≤ 2 ^ 60) × Appended write.appended armored (form (read.rest old).bytes) last)
+        IsTrue (read.rest old).ends_well × (length (read.rest old).bytes ≤ 2 ^ 60)
+        × Appended write.appended armored (form (read.rest old).bytes) last)
         (narrows : (e : Error) → RefusesChunk (ArmorRefused write.refuses) last e →
         RefusesSomeFile (ArmorRefused write.refuses) armored (IsTrue (read.tells old)) (length (read.rest old).bytes) e) where
       -- what is refused once the file was written
@@ -369,14 +401,20 @@ module _ {R W : Type 0} (read : Ghosts R) (write : WriteGhosts W) (form : List �
             | inl failed ↦ subst (λ w. AppendsFront write.appended (text_of format (form (read.rest old).bytes)) writer w) (sym (ended.failed failed))
                 (subst (λ l. AppendsFront write.appended (text_of format l) writer (inner_of last)) (append-nil (form (read.rest old).bytes))
                 (law armored last format (form (read.rest old).bytes) [] writer (begun.made told) out))
-            | inr good ↦ ended.front (same_tells ∙ begun.same_tells ∙ told) good armored format (form (read.rest old).bytes) writer (begun.made told) out
+            | inr good ↦ ended.front (same_tells ∙ begun.same_tells ∙ told) good armored format (form (read.rest old).bytes) writer
+                (begun.made told) out
           ]
 
-      pub text-made : (result : W × Result ⊤ Error) → EndsText write last result → WritesMade read write (λ plain. text_of format (form plain)) old new writer result
+      pub text-made : (result : W × Result ⊤ Error) → EndsText write last result
+          → WritesMade read write (λ plain. text_of format (form plain)) old new writer result
       text-made (out, Ok x) ended = record {
         all = λ read_told told.
-            let (ends, within, taken) = took read_told (begun.same_tells ∙ told) in
-            (ends, within, ended.all (same_tells ∙ begun.same_tells ∙ told) armored format (form (read.rest old).bytes) writer (begun.made told) taken);
+            let (ends, within, taken) = took read_told (begun.same_tells ∙ told) in (
+              ends,
+              within,
+              ended.all (same_tells ∙ begun.same_tells ∙ told) armored format (form (read.rest old).bytes) writer
+                  (begun.made told) taken,
+            );
         front = ended-front (out, Ok x) ended;
         same_tells = ended.same_tells ∙ same_tells ∙ begun.same_tells;
         no_fewer_faults = omega (arith, begun.no_fewer_faults, no_fewer_faults, ended.no_fewer_faults);
@@ -425,11 +463,13 @@ module _ {W : Type 0} (write : WriteGhosts W) (old new : ArmoredWriter W) where
     handed e h = handed-back write.refuses old e good-before (closed.narrows e h)
 
     -- it was, and the writer below was flushed
-    pub text-flushed : (joins : (a b c : W) (x y : List ℕ) → write.appended a x b → write.appended b y c → write.appended a (x ++ y) c) (out : W) (result : Result ⊤ Error) →
+    pub text-flushed : (joins : (a b c : W) (x y : List ℕ) → write.appended a x b → write.appended b y c → write.appended a (x ++ y) c) (out : W)
+        (result : Result ⊤ Error) →
         Flushes write.tells write.faults (Retried write.refuses) write.appended new.inner out result → EndsText write old (out, result)
     text-flushed joins out (Ok x) flushed = record {
       all = λ told start format bytes first made took.
-          rw append-nil at (joins first new.inner out (text_of format bytes) [] (closed.ok told start format bytes first made took) (flushed.nothing (closed.same_tells ∙ told)));
+          rw append-nil at (joins first new.inner out (text_of format bytes) [] (closed.ok told start format bytes first made took)
+          (flushed.nothing (closed.same_tells ∙ told)));
       front = λ told good start format bytes first made took. front-still write.appended joins (text_of format bytes) first new.inner out
           (closed.front told good start format bytes first made took) (flushed.nothing (closed.same_tells ∙ told));
       failed = λ is. absurd (true≢false (sym is ∙ good-before));

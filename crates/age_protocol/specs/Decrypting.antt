@@ -17,7 +17,8 @@ use Rattle.age_format.specs.HeaderV1.{HeaderValue}
 use Rattle.age_format.specs.ReadingHeader.{TookVerdict, RefusesHeader}
 
 -- A header of this text and 16 bytes were taken from the front of the rest, and no byte more.
-pub record TookHeaderAndNonce (legacy : Bool) (old new : Stretch) (old_place new_place : ℕ) (text : List ℕ) (stanzas : List StanzaValue) (mac nonce : List ℕ) : Type 0 where
+pub record TookHeaderAndNonce (legacy : Bool) (old new : Stretch) (old_place new_place : ℕ) (text : List ℕ) (stanzas : List StanzaValue)
+    (mac nonce : List ℕ) : Type 0 where
   pub verdict : IsVerdict legacy old.bytes text (Header stanzas mac)
   pub sixteen : AreBytesOf 16 nonce
   pub delivered : Delivers (text ++ nonce) old new
@@ -45,7 +46,8 @@ pub record BreaksRuleAfter (stanzas : List StanzaValue) (old new : Stretch) (old
   pub is : e ≡ InvalidHeader
 
 -- A header was read, and this is why it isn't the front of a file.
-pub record BreaksFrontRules (legacy : Bool) (old_faults new_faults : ℕ) (old new : Stretch) (old_place new_place : ℕ) (e : DecryptRefusal) : Type 0 where
+pub record BreaksFrontRules (legacy : Bool) (old_faults new_faults : ℕ) (old new : Stretch) (old_place new_place : ℕ)
+    (e : DecryptRefusal) : Type 0 where
   pub text : List ℕ
   pub stanzas : List StanzaValue
   pub mac : List ℕ
@@ -65,7 +67,8 @@ pub record RefusesFront {R : Type 0} (legacy : Bool) (read : Ghosts R) (old new 
   pub device : IsDeviceRefusal e → read.faults old < read.faults new
   pub io : IfIoRefusal (OrEarly read old) e
   -- of a reader that tells its bytes
-  pub why : IsTrue (read.tells old) → WhyNoFront legacy (read.faults old) (read.faults new) (read.rest old) (read.rest new) (read.place old) (read.place new) e
+  pub why : IsTrue (read.tells old) → WhyNoFront legacy (read.faults old) (read.faults new) (read.rest old) (read.rest new) (read.place old)
+      (read.place new) e
 
 -- What reading a nonce after a header of these stanzas answers.
 pub record ReadsNonce {R : Type 0} (read : Ghosts R) (stanzas : List StanzaValue) (old new : R) (result : Result (List ℕ) DecryptError) : Type 0 where

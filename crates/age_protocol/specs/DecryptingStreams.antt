@@ -23,8 +23,8 @@ use Rattle.age_protocol.specs.WholeFiles.{LacksFront, RefusesReading}
 use Rattle.age_protocol.specs.Parts.{AppendsOf, AppendsPart, IsPartAt, RefusesPart, StandsAt}
 use Rattle.age_error.specs.declared.file.FileError.{FileError}
 
--- Why no file is opened in a text that was read to its end: no header with a nonce begins it, or one does, and what the identities answer to its stanzas,
--- its MAC or memory is why.
+-- Why no file is opened in a text that was read to its end: no header with a nonce begins
+-- it, or one does, and what the identities answer to its stanzas, its MAC or memory is why.
 abbrev pub RefusesOpening : List ℕ → (HeaderValue → List ℕ → Stretch → Type 0) → (List StanzaValue → UnwrapAnswer → Type 0) → DecryptRefusal → Type 0
 RefusesOpening text begins answers refusal = LacksFront text refusal ⊎ RefusesAnswered begins answers refusal
 
@@ -78,13 +78,14 @@ pub record DecryptsPart {S R W T : Type 0} (suite : SuiteGhosts S) (read : ReadG
   pub given : IsTrue (read.tells input) → IsTrue (write.tells old) → OnOk result
       (AppendsOf (BeginsText read.tells read.rest input) gives write.appended count (IsPartAt suite.seal_of place count) old new)
   -- The cause of a refusal of the header or of the identities, where the text is told, which was read to its end by then.
-  pub why : IsTrue (read.tells input) → IfErr result (DecryptsUnless (RefusesOpening (read.rest input).bytes (BeginsText read.tells read.rest input) answers))
+  pub why : IsTrue (read.tells input) → IfErr result
+      (DecryptsUnless (RefusesOpening (read.rest input).bytes (BeginsText read.tells read.rest input) answers))
   -- The cause of a refusal of the reader or the writer: memory, the writer, the reader, the target, or what is wrong with the text or the
   -- payload that was read, whatever that was.
   pub io : IfErr result (IfIo (λ e. (e ≡ out_of_memory) ⊎ TriedAgain read.refuses input e ⊎ HandsOn write.refuses old e
       ⊎ IsOutside e ⊎ (e ≡ failed) ⊎ ((text : List ℕ) × RefusesReading text e) ⊎ IsPayloadRefusal e))
-  -- Where the text is told, a fault of it is the one in which it ends, and what the payload is refused for is said only under a right MAC, and of this payload: `PastEnd` where it ends before the
-  -- place, by its own length.
+  -- Where the text is told, a fault of it is the one in which it ends, and what the payload is refused for is said
+  -- only under a right MAC, and of this payload: `PastEnd` where it ends before the place, by its own length.
   pub cause : IsTrue (read.tells input) → IsTrue (write.tells old) → IfErr result (IfIo (λ e. (e ≡ out_of_memory) ⊎ TriedAgain read.refuses input e
       ⊎ HandsOn write.refuses old e ⊎ RefusesReading (read.rest input).bytes e
       ⊎ AppendsOf (BeginsText read.tells read.rest input) gives write.appended count (RefusesPart suite.seal_of (λ f. f ≡ failed) place e) old new))

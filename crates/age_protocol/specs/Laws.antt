@@ -1,5 +1,5 @@
 -- The laws of files.
-use Rattle.std.specs.Prelude.{◌≡◌, ℕ, ◌^◌, ◌≤◌, ◌&&◌, List, [], ◌∷◌, length, IsTrue}
+use Rattle.std.specs.Prelude.{◌≡◌, ℕ, ◌^◌, ◌≤◌, ◌&&◌, List, [], ◌∷◌, length, IsTrue, Option, Ok}
 use Rattle.age_error.specs.Bytes.{AreBytes}
 use Rattle.age_error.specs.DecryptErrors.{DecryptRefusal, OutOfMemory}
 use Rattle.age_suite.specs.declared.suite.Suite.{Ghosts as SuiteGhosts}
@@ -15,14 +15,26 @@ use Rattle.age_v1.specs.HeaderMac.{header_mac}
 use Rattle.age_v1.specs.Identities.{UnwrapAnswer, FirstAnswer, IsFileFor, Decrypts}
 use Rattle.age_v1.specs.Payload.{Seal, payload, LastIsNoMiddle, payload_key}
 use Rattle.age_stream.specs.declared.reader.StreamReader.{StreamReader}
-use Rattle.age_v1.specs.File.{BeginsAsFile, IsFileOf}
+use Rattle.age_v1.specs.File.{BeginsAsFile, IsFileOf, file_text}
+use Rattle.age_v1.specs.Recipients.{WrapAnswer}
+use Rattle.age_v1.specs.Encrypting.{Prepared, Prepares}
 use Rattle.age_protocol.specs.Decrypting.{ReadsFront, RefusesFront}
 use Rattle.age_protocol.specs.OpeningFile.{OpensFile, StandsBefore}
 use Rattle.age_protocol.specs.WholeFiles.{RefusesDecrypting}
 
--- The suite opens no full last chunk as one in the middle, whatever the key and the plaintext are.
-abbrev pub KeepsApart : Seal → Type 0
-KeepsApart seal_of = (key plain : List ℕ) → LastIsNoMiddle seal_of key plain
+-- The file of this plaintext that was prepared so: its last chunk, where it is full, doesn't open as one in the middle too. (The nonce of
+-- `is_file` is that of `file`.) Of no real cipher this holds for all keys and plaintexts: who knows the key can make a plaintext for which
+-- it doesn't. Under a fresh key it fails by chance alone, of a cipher with tags of 16 bytes once in 2^128 files whose last chunk is full.
+abbrev pub EndsApart : Seal → List ℕ → Prepared → Type 0
+EndsApart seal_of plain file =
+    (is_file : IsFileOf seal_of file.file_key file.stanzas plain (file_text seal_of file.file_key file.stanzas file.nonce plain))
+    → LastIsNoMiddle seal_of (payload_key file.file_key is_file.nonce) plain
+
+-- so ends what these recipients are prepared for by these random bytes, of which those are left
+abbrev pub PreparesApart : {R : Type 0} → (R → List ℕ → List ℕ → WrapAnswer → List ℕ → Type 0) → List R → Option StanzaValue → (draws left : List ℕ)
+    → Seal → List ℕ → Type 0
+PreparesApart wraps recipients grease draws left seal_of plain =
+    (file : Prepared) → Prepares wraps recipients grease draws (Ok file) left → EndsApart seal_of plain file
 
 -- what a decryptor reads from bytes that begin as a file: the header, the nonce, and no byte of what follows
 abbrev pub ReadsBack : Type 0
@@ -39,7 +51,8 @@ RefusesNoFile {R} read =
 
 -- where a file is read, the header's MAC is right under its file key, and the payload of its plaintext is left
 abbrev pub FileOpens : Seal → Type 0
-FileOpens seal_of = (start rest : Stretch) (start_place place : ℕ) (h : HeaderValue) (nonce file_key : List ℕ) (stanzas : List StanzaValue) (plain : List ℕ)
+FileOpens seal_of = (start rest : Stretch) (start_place place : ℕ) (h : HeaderValue) (nonce file_key : List ℕ) (stanzas : List StanzaValue)
+    (plain : List ℕ)
     → ReadsFront start rest start_place place h nonce → (file : IsFileOf seal_of file_key stanzas plain start.bytes)
     → (h.stanzas ≡ stanzas) × (h.mac ≡ header_mac file_key (covered_text h.stanzas)) × (nonce ≡ file.nonce)
     × (rest.bytes ≡ payload seal_of (payload_key file_key nonce) plain) × (rest.ends_well ≡ start.ends_well)
@@ -70,7 +83,8 @@ CarriesItself seal_of = (file_key : List ℕ) (stanzas : List StanzaValue) (plai
 module _ {I : Type 0} (seal_of : Seal) (unwraps : I → List StanzaValue → UnwrapAnswer → I → Type 0) where
   -- what carries a file for the identity is decrypted to nothing but its plaintext
   abbrev pub GivesBack : Type 0
-  GivesBack = (before after : I) (text file plain given : List ℕ) → Carries text file → IsFileFor seal_of (FirstAnswer unwraps (before ∷ [])) plain file
+  GivesBack = (before after : I) (text file plain given : List ℕ) → Carries text file
+      → IsFileFor seal_of (FirstAnswer unwraps (before ∷ [])) plain file
       → Decrypts seal_of unwraps before text given after → given ≡ plain
 
   -- and refused for want of memory alone

@@ -90,7 +90,8 @@ module _ {I R : Type 0} (unwraps : I → List StanzaValue → UnwrapAnswer → I
 
 -- Why it ends after the MAC was found to be right: for want of memory, as the reader or the writer refuses, or since the input has more
 -- pieces than are counted, to which no reader comes that tells its bytes.
-pub record StopsAfterMac {R W : Type 0} (read : ReadGhosts R) (write : WriteGhosts W) (input last : R) (old new : W) (refusal : DecryptRefusal) : Type 0 where
+pub record StopsAfterMac {R W : Type 0} (read : ReadGhosts R) (write : WriteGhosts W) (input last : R) (old new : W)
+    (refusal : DecryptRefusal) : Type 0 where
   pub error : Error
   pub is : refusal ≡ decrypt_refusal (decrypt_of_io error)
   pub device : IsDevice error → (read.faults input < read.faults last) ⊎ (write.faults old < write.faults new)
@@ -120,7 +121,8 @@ pub record Migrates {I R W T : Type 0} (unwraps : I → List StanzaValue → Unw
       ⊎ UnderOldMac unwraps read before after input (λ front rest. StopsAfterMac read write input last old new refusal))
 
 -- Of an old file the file of the same plaintext was appended, or after a refusal a beginning of it.
-pub record AppendsMigrated {W T : Type 0} (seal_of : Seal) (write : WriteGhosts W) (file_key : List ℕ) (stanzas : List StanzaValue) (nonce plain : List ℕ)
+pub record AppendsMigrated {W T : Type 0} (seal_of : Seal) (write : WriteGhosts W) (file_key : List ℕ) (stanzas : List StanzaValue)
+    (nonce plain : List ℕ)
     (old new : W) (result : Result T DecryptError) : Type 0 where
   pub is_file : IsFileOf seal_of file_key stanzas plain (file_text seal_of file_key stanzas nonce plain)
   pub all : OnOk result (write.appended old (file_text seal_of file_key stanzas nonce plain) new)
@@ -135,5 +137,6 @@ MigratesFiles seal_of unwraps read write before input last old new result =
     → (file_key : List ℕ) (stanzas : List StanzaValue) (plain : List ℕ) (is : IsOldFileOf seal_of file_key stanzas plain (read.rest input).bytes)
     → ((answer : UnwrapAnswer) → FirstAnswer unwraps before stanzas answer → (answer ≡ Some (Ok file_key)) ⊎ (answer ≡ Some (Err OutOfMemory)))
     → AppendsMigrated seal_of write file_key stanzas is.nonce plain old new result
-    × (IsQuiet (read.faults input) (read.faults last) → IfErr result (λ e. (error : Error) × (decrypt_refusal e ≡ decrypt_refusal (decrypt_of_io error))
+    × (IsQuiet (read.faults input) (read.faults last)
+    → IfErr result (λ e. (error : Error) × (decrypt_refusal e ≡ decrypt_refusal (decrypt_of_io error))
     × ((error ≡ io.OutOfMemory) ⊎ HandsOn write.refuses old error)))

@@ -73,5 +73,6 @@ module _ {I S T : Type 0} (suite : SuiteMembers S) (read : ReadMembers T) (unwra
     pub stream : StreamReader S T suite read
     pub opened : IsOpened unwraps old new text stream
     pub last : StreamReader S T suite read
-    pub came : CameOfAll tells_of steady_of content_of place_of plain_rest_of faults_of refuses_of ReadsPayload (OrTooLong seek_refuses) (SeeksPayload seek_refuses)
+    pub came : CameOfAll tells_of steady_of content_of place_of plain_rest_of faults_of refuses_of ReadsPayload (OrTooLong seek_refuses)
+        (SeeksPayload seek_refuses)
         ops answers stream last

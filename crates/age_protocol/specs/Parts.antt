@@ -44,7 +44,8 @@ AppendsOf begins gives appended count Holds old new = UnderMac begins gives (λ 
 
 -- Of a plaintext the bytes from a place on were appended, so many or fewer at the end; after a refusal a beginning of them.
 -- Where the device doesn't fail, the file is opened unless memory is refused, and a place after the end is refused as such.
-pub record AppendsPart {W T : Type 0} (appended : W → List ℕ → W → Type 0) (refuses : W → ℕ → Error → Type 0) (Quiet : Type 0) (place count : ℕ) (plain : List ℕ)
+pub record AppendsPart {W T : Type 0} (appended : W → List ℕ → W → Type 0) (refuses : W → ℕ → Error → Type 0) (Quiet : Type 0) (place count : ℕ)
+    (plain : List ℕ)
     (old new : W) (result : Result T FileError) : Type 0 where
   pub part : OnOk result ((place ≤ length plain) × appended old (take count (drop place plain)) new)
   pub front : AppendsFront appended (take count (drop place plain)) old new

@@ -7,7 +7,7 @@ use Rattle.age_io.specs.Writing.{HandsOn}
 use Rattle.age_io.specs.declared.traits.Read.{Ghosts}
 use Rattle.age_io.specs.declared.traits.Write.{Ghosts as WriteGhosts}
 use Rattle.age_armor.specs.WriterCalls.{OfText}
-use Rattle.age_armor.specs.Writing.{IsFailed, IsGood, Refused, inner_of}
+use Rattle.age_armor.specs.Writing.{HasFailed, IsGood, Refused, inner_of}
 use Rattle.age_armor.specs.declared.writer.ArmoredWriter.{ArmoredWriter}
 use Rattle.age_protocol.specs.WholeFiles.{RefusesSomeFile, RefusesWriting}
 use Rattle.age_stream.specs.Sending.{RefusesChunk}
@@ -30,8 +30,9 @@ pub record WritesMade {R W : Type 0} (read : Ghosts R) (write : WriteGhosts W) (
 -- What comes of ending the text of a writer of armor and flushing the writer below, which is handed back beside the answer.
 pub record EndsText {W : Type 0} (write : WriteGhosts W) (old : ArmoredWriter W) (result : W × Result ⊤ Error) : Type 0 where
   pub all : IsTrue (write.tells (inner_of old)) → OfText write.appended old (λ text first. OnOk result.1 (write.appended first text result.0))
-  pub front : IsTrue (write.tells (inner_of old)) → IsGood old → OfText write.appended old (λ text first. AppendsFront write.appended text first result.0)
-  pub failed : IsFailed old → result.0 ≡ inner_of old
+  pub front : IsTrue (write.tells (inner_of old)) → IsGood old
+      → OfText write.appended old (λ text first. AppendsFront write.appended text first result.0)
+  pub failed : HasFailed old → result.0 ≡ inner_of old
   pub same_tells : OnOk result.1 (write.tells result.0 ≡ write.tells (inner_of old))
   pub no_fewer_faults : OnOk result.1 (write.faults (inner_of old) ≤ write.faults result.0)
   pub why : IfErr result.1 (HandsOn (Refused write.refuses) old)

@@ -26,7 +26,8 @@ grease_beside false (Some grease) = grease ∷ []
 abbrev pub OneDecrypts : {I : Type 0} → (I → List StanzaValue → UnwrapAnswer → I → Type 0) → Seal → Type 0
 OneDecrypts {I} unwraps seal_of =
     (identity : I) (file_key : List ℕ) (stanzas : List StanzaValue) (plain text : List ℕ)
-    → ((answer : UnwrapAnswer) (after : I) → Unwraps unwraps identity stanzas answer after → (answer ≡ Some (Ok file_key)) ⊎ (answer ≡ Some (Err OutOfMemory)))
+    → ((answer : UnwrapAnswer) (after : I) → Unwraps unwraps identity stanzas answer after
+    → (answer ≡ Some (Ok file_key)) ⊎ (answer ≡ Some (Err OutOfMemory)))
     → (is_file : IsFileOf seal_of file_key stanzas plain text)
     → AreBytes plain → length plain ≤ 2 ^ 60 → LastIsNoMiddle seal_of (payload_key file_key is_file.nonce) plain
     → IsFileFor seal_of (FirstAnswer unwraps (identity ∷ [])) plain text
@@ -47,7 +48,8 @@ module _ {R : Type 0} (wraps : R → List ℕ → List ℕ → WrapAnswer → Li
   -- all stanzas that the recipient wraps a file key in are strange
   abbrev pub WrapsStrange : (StanzaValue → Bool) → R → Type 0
   WrapsStrange is_strange recipient =
-      (file_key : List ℕ) (wrapped : Wrapped) → length file_key ≡ 16 → MayWrap wraps file_key recipient wrapped → All (λ s. IsTrue (is_strange s)) wrapped.stanzas
+      (file_key : List ℕ) (wrapped : Wrapped) → length file_key ≡ 16 → MayWrap wraps file_key recipient wrapped
+      → All (λ s. IsTrue (is_strange s)) wrapped.stanzas
 
   module _ {I : Type 0} (unwraps : I → List StanzaValue → UnwrapAnswer → I → Type 0) where
     -- The identity belongs to one of several recipients, and what those before that one wrap is strange to it.

@@ -44,7 +44,8 @@ pub record RefusesWriting {R W : Type 0} (read : ReadGhosts R) (write : WriteGho
   pub why : IsTrue (read.tells old) → IsTrue (read.rest old).ends_well → IsQuiet (read.faults old) (read.faults new)
       → RefusesFile write.refuses before (length (read.rest old).bytes) e
   -- where both tell their bytes, an error of a device is one that the reader or the writer counts
-  pub device : IsTrue (read.tells old) → IsTrue (write.tells before) → IsDevice e → (read.faults old < read.faults new) ⊎ (write.faults before < write.faults after)
+  pub device : IsTrue (read.tells old) → IsTrue (write.tells before) → IsDevice e
+      → (read.faults old < read.faults new) ⊎ (write.faults before < write.faults after)
 
 -- A refusal while a plaintext of this many bytes is written to memory: want of memory, or `TooLong` past 2^60 bytes.
 pub record RefusesOutput (size : ℕ) (refusal : EncryptRefusal) : Type 0 where

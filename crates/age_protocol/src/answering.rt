@@ -14,7 +14,8 @@ fn first_answer<I: Identity>(
     identities: &mut [I],
     stanzas: &[Stanza],
 ) -> Option<Result<FileKey, DecryptError>>
-    ensures { FirstThatAnswers (λ identity answer after. Unwraps I.unwraps identity stanzas.now answer after) identities.old (unwrap_answer result) identities.new }
+    ensures { FirstThatAnswers (λ identity answer after. Unwraps I.unwraps identity stanzas.now answer after) identities.old
+        (unwrap_answer result) identities.new }
 {
     for identity in identities.iter_mut() {
         if let Some(answer) = identity.unwrap_stanzas(alloc, stanzas) {

@@ -57,7 +57,8 @@ impl<S: Suite, R: Read + Drop> Decryptor<S, R> {
         identities: &mut [I],
     ) -> Result<StreamReader<S, R>, DecryptError>
         ensures { (answer : UnwrapAnswer)
-            × FirstThatAnswers (λ identity answer after. Unwraps I.unwraps identity (header_of self).stanzas answer after) identities.old answer identities.new
+            × FirstThatAnswers (λ identity answer after. Unwraps I.unwraps identity (header_of self).stanzas answer after) identities.old answer
+            identities.new
             × AnswersReader (decided answer) (header_of self) (nonce_of self) (input_of self) result }
     {
         match file_key_of(alloc, identities, self.header.stanzas()) {

@@ -1,5 +1,5 @@
 //! Wrapping a file key for several recipients.
-ghost use Rattle.std.specs.Prelude.{◌≡◌, ◌≢◌, [], ◌∷◌};
+ghost use Rattle.std.specs.Prelude.{◌≢◌, []};
 ghost use Rattle.age_v1.specs.Header.{KeepsScryptRule};
 ghost use Rattle.age_v1.specs.Recipients.{WrapAnswer, nothing_yet, judged};
 ghost use Rattle.age_v1.specs.Encrypting.{IsOrNoMemory, WrapsInTurn, PreparesNonce, PreparesRest, PreparesWith, Prepares};

@@ -75,11 +75,13 @@ fn write_front<W: Write>(
     nonce: &[u8; 16],
     output: &mut W,
 ) -> Result<ChunkRoom, io::Error>
-    ensures writes { WritesAll W.tells W.faults (OrMemory (Retried W.refuses)) W.appended output.old output.new (header_text header.now.stanzas header.now.mac ++ nonce.now) result }
+    ensures writes { WritesAll W.tells W.faults (OrMemory (Retried W.refuses)) W.appended output.old output.new
+        (header_text header.now.stanzas header.now.mac ++ nonce.now) result }
     ensures patient { IfErr result (λ e. IsInterruption e → ⊥) }
     ensures bytes { OnOk result (AreBytes (header_text header.now.stanzas header.now.mac ++ nonce.now)) }
 {
     let text = text_before_payload(alloc, header, nonce)?;
+    // For the proof alone: these are bytes, each below 256.
     known_bytes(&text);
     let room = ChunkRoom::new(alloc)?;
     write_all(output, &text)?;
@@ -157,6 +159,7 @@ impl<S: Suite> Encryptor<S> {
         ensures { IsOrNoMemory (Ok (record { file_key = file_key; stanzas = stanzas.items; nonce = nonce })) (encrypt_answer result) }
     {
         let header = HeaderV1::new(alloc, stanzas, &file_key)?;
+        // Facts for the proof alone.
         known_header(&header);
         known_array(&nonce);
         Ok(Encryptor {
@@ -208,6 +211,7 @@ impl<S: Suite> Encryptor<S> {
         ensures refused { IfErr result (λ back. GivesUp W.tells W.faults W.refuses W.appended self output back.0 back.1) }
         ensures patient { IfErr result (λ back. IsInterruption back.1 → ⊥) }
     {
+        // Facts for the proof alone.
         payload_laws::<S>();
         mac_laws();
         let mut output = output;

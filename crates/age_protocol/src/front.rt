@@ -16,6 +16,7 @@ pub(crate) fn read_nonce<R: Read>(
 {
     let mut nonce = [0; 16];
     read_exact(reader, &mut nonce)?;
+    // For the proof alone: these are bytes, each below 256.
     known_array(&nonce);
     if !keeps_scrypt_rule(stanzas) {
         return Err(DecryptError::InvalidHeader);

@@ -132,7 +132,8 @@ impl Gathered {
         mut stanzas: Vec<Stanza>,
         labels: BTreeSet<String>,
     ) -> Result<Gathered, EncryptError>
-        ensures { IsOrNoMemory (judged self (Ok (record { stanzas = stanzas.items; labels = labels_of labels }))) (result_map_both (λ g. g) (λ e. encrypt_refusal e) result) }
+        ensures { IsOrNoMemory (judged self (Ok (record { stanzas = stanzas.items; labels = labels_of labels })))
+            (result_map_both (λ g. g) (λ e. encrypt_refusal e) result) }
     {
         let Gathered {
             labels: first,

@@ -64,10 +64,12 @@ pub fn migrate<S: Suite, I: Identity, R: Read, W: Write>(
     reader: &mut R,
     writer: &mut W,
 ) -> Result<(), DecryptError>
-    ensures migrates { Migrates I.unwraps ⟦<R as Read>⟧ ⟦<W as Write>⟧ identities.old identities.new reader.old reader.new writer.old writer.new result }
+    ensures migrates { Migrates I.unwraps ⟦<R as Read>⟧
+        ⟦<W as Write>⟧ identities.old identities.new reader.old reader.new writer.old writer.new result }
     // An old file for the identities becomes the file of its plaintext.
     ensures files { MigratesFiles S.seal_of I.unwraps ⟦<R as Read>⟧ ⟦<W as Write>⟧ identities.old reader.old reader.new writer.old writer.new result }
 {
+    // Facts for the proof alone.
     header_text_reads_back();
     verdict_is_unique();
     mac_laws();

@@ -41,6 +41,7 @@ pub fn open_file<S: Suite, I: Identity, T: Read + Drop>(
         IsFileFor S.seal_of (FirstAnswer I.unwraps identities.old) plain (T.rest bytes).bytes →
         MatchResult result (λ stream. StandsBefore plain stream) (λ e. ((t : T) → T.faults t ≡ 0) → decrypt_refusal e ≡ OutOfMemory) }
 {
+    // Facts for the proof alone.
     front_is_accepted::<T>();
     file_opens::<S, T>();
     match Decryptor::<S, T>::new(alloc, bytes) {
@@ -71,6 +72,7 @@ pub fn open_file_by_one<S: Suite, I: Identity, T: Read + Drop>(
         IsFileFor S.seal_of (FirstAnswer I.unwraps (identity.old ∷ [])) plain (T.rest bytes).bytes →
         MatchResult result (λ stream. StandsBefore plain stream) (λ e. ((t : T) → T.faults t ≡ 0) → decrypt_refusal e ≡ OutOfMemory) }
 {
+    // Facts for the proof alone.
     front_is_accepted::<T>();
     file_opens::<S, T>();
     match Decryptor::<S, T>::new(alloc, bytes) {
@@ -96,7 +98,8 @@ pub fn open_text<S: Suite, I: Identity, R: Read + Drop>(
 ) -> Result<StreamReader<S, ArmoredReader<BufReader<R>>>, FileError>
     ensures tells { let opened = ⟦<StreamReader<S, ArmoredReader<BufReader<R>>> as Read>⟧ in
         IfOk result (λ stream. opened.tells stream ≡ (R.tells reader && R.steady reader)) }
-    ensures faults { let opened = ⟦<StreamReader<S, ArmoredReader<BufReader<R>>> as Read>⟧ in IfOk result (λ stream. R.faults reader ≤ opened.faults stream) }
+    ensures faults { let opened = ⟦<StreamReader<S, ArmoredReader<BufReader<R>>> as Read>⟧ in
+        IfOk result (λ stream. R.faults reader ≤ opened.faults stream) }
     // Of any text.
     ensures opened { let armored = ⟦<ArmoredReader<BufReader<R>> as Read>⟧ in IfOk result (λ stream.
         OfText ⟦<R as Read>⟧ armored reader (λ text. IsOpened I.unwraps identities.old identities.new text stream)) }
@@ -138,7 +141,8 @@ pub fn answers<S: Suite, I: Identity, R: Seek + Drop>(
         ⟦<ArmoredReader<BufReader<R>> as Seek>⟧.seek_refuses ops.now answers.items)) }
     ensures refused { let armored = ⟦<ArmoredReader<BufReader<R>> as Read>⟧ in IfErr result (DecryptsUnless (λ refusal.
         OfText ⟦<R as Read>⟧ armored reader (λ text. IsNotOpened I.unwraps armored identities.old identities.new text refusal))) }
-    ensures io { let armored = ⟦<ArmoredReader<BufReader<R>> as Read>⟧ in IfErr result (λ e. IsIoError e → IsWant e × ((identities.new ≡ identities.old)
+    ensures io { let armored = ⟦<ArmoredReader<BufReader<R>> as Read>⟧ in
+        IfErr result (λ e. IsIoError e → IsWant e × ((identities.new ≡ identities.old)
         ⊎ OfText ⟦<R as Read>⟧ armored reader (λ text. WasOpened ⟦<S as Suite>⟧ armored I.unwraps identities.old identities.new text))) }
     ensures cursor { IsTrue (R.tells reader && R.steady reader) → IsTrue (R.rest reader).ends_well → ((r : R) → R.faults r ≡ 0) →
         (file plain : List ℕ) → Carries (R.rest reader).bytes file → IsFileFor S.seal_of (FirstAnswer I.unwraps identities.old) plain file →

@@ -77,12 +77,14 @@ pub fn write_part<S: Suite, R: Seek, W: Write>(
     // Why it refuses: for want of memory, as a seek or a read of the stream does, or as the writer does that is given so many bytes. A
     // place in a content that ends well is refused for want of memory or by the writer alone.
     ensures named { let reader = ⟦<StreamReader<S, R> as Read>⟧ in IfErr result
-        (CopyRefuses (λ e. IsSeekRefusal (OrTooLong R.seek_refuses) e ⊎ TriedAgain reader.refuses stream.old e) (Retried W.refuses writer.old count)) }
+        (CopyRefuses (λ e. IsSeekRefusal (OrTooLong R.seek_refuses) e ⊎ TriedAgain reader.refuses stream.old e)
+        (Retried W.refuses writer.old count)) }
     ensures why { let reader = ⟦<StreamReader<S, R> as Read>⟧ in IsTrue (reader.tells stream.old) → IsTrue (reader.content stream.old).ends_well →
         place ≤ length (reader.content stream.old).bytes → IsQuiet (reader.faults stream.old) (reader.faults stream.new) →
         IfErr result (OrMemory (Retried W.refuses) writer.old count) }
     // That the place is outside is said where the payload ends before it, by its own length, or as the stream's own reads or the writer say it.
-    ensures outside { let reader = ⟦<StreamReader<S, R> as Read>⟧ in IsTrue (reader.tells stream.old) → IsTrue (W.tells writer.old) → IfErr result (λ e. IsOutside e →
+    ensures outside { let reader = ⟦<StreamReader<S, R> as Read>⟧ in
+        IsTrue (reader.tells stream.old) → IsTrue (W.tells writer.old) → IfErr result (λ e. IsOutside e →
         TriedAgain reader.refuses stream.old e ⊎ Retried W.refuses writer.old count e ⊎ ((e ≡ PastEnd)
         × AppendsSome W.appended count (λ out. (out ≡ []) × EndsBefore place (payload_of stream.old)) writer.old writer.new)) }
     ensures device { let reader = ⟦<StreamReader<S, R> as Read>⟧ in IfErr result (λ e. IsDevice e →
@@ -91,6 +93,7 @@ pub fn write_part<S: Suite, R: Seek, W: Write>(
     match stream.seek(SeekFrom::Start(place)) {
         Err(e) => Err(e),
         Ok(_start) => {
+            // A fact for the proof alone.
             reader_law(stream);
             copy_some(alloc, stream, writer, count)
         }
@@ -109,18 +112,21 @@ fn at_bytes<S: Suite, I: Identity, T: Seek + Drop, W: Write>(
     ensures cursor { IsTrue (T.tells bytes && T.steady bytes) → IsTrue (W.tells writer.old) → IsTrue (T.rest bytes).ends_well → (plain : List ℕ) →
         IsFileFor S.seal_of (FirstAnswer I.unwraps identities.old) plain (T.rest bytes).bytes →
         AppendsPart W.appended W.refuses ((t : T) → T.faults t ≡ 0) place count plain writer.old writer.new result }
-    ensures standing { T.rest bytes ≡ from_place (T.place bytes) (T.content bytes) → IsTrue (T.tells bytes && T.steady bytes) → IsTrue (W.tells writer.old) →
+    ensures standing { T.rest bytes ≡ from_place (T.place bytes) (T.content bytes) → IsTrue (T.tells bytes && T.steady bytes)
+        → IsTrue (W.tells writer.old) →
         (writer.new ≡ writer.old) ⊎ AppendsOf (HasFront (T.rest bytes) (T.place bytes))
         (GivesFirst I.unwraps identities.old identities.new)
         W.appended count (StandsAt S.seal_of place) writer.old writer.new }
-    ensures given { T.rest bytes ≡ from_place (T.place bytes) (T.content bytes) → IsTrue (T.tells bytes && T.steady bytes) → IsTrue (W.tells writer.old) → OnOk result (AppendsOf (HasFront (T.rest bytes) (T.place bytes))
+    ensures given { T.rest bytes ≡ from_place (T.place bytes) (T.content bytes) → IsTrue (T.tells bytes && T.steady bytes)
+        → IsTrue (W.tells writer.old) → OnOk result (AppendsOf (HasFront (T.rest bytes) (T.place bytes))
         (GivesFirst I.unwraps identities.old identities.new)
         W.appended count (IsPartAt S.seal_of place count) writer.old writer.new) }
     ensures refused { IfErr result (λ e. IsDecryptError e → writer.new ≡ writer.old) }
     ensures unopened { IfErr result (DecryptsUnless (IsNotOpened I.unwraps ⟦<T as Read>⟧ identities.old identities.new bytes)) }
     ensures io { IfErr result (IfIo (λ e. (e ≡ OutOfMemory) ⊎ TriedAgain T.refuses bytes e ⊎ HandsOn W.refuses writer.old e
         ⊎ IsSeekRefusal T.seek_refuses e ⊎ IsPayloadRefusal e)) }
-    ensures cause { T.rest bytes ≡ from_place (T.place bytes) (T.content bytes) → IsTrue (T.tells bytes && T.steady bytes) → IsTrue (W.tells writer.old) →
+    ensures cause { T.rest bytes ≡ from_place (T.place bytes) (T.content bytes) → IsTrue (T.tells bytes && T.steady bytes)
+        → IsTrue (W.tells writer.old) →
         IfErr result (IfIo (λ e. (e ≡ OutOfMemory) ⊎ TriedAgain T.refuses bytes e ⊎ HandsOn W.refuses writer.old e
         ⊎ AppendsOf (HasFront (T.rest bytes) (T.place bytes)) (GivesFirst I.unwraps identities.old identities.new) W.appended count
         (RefusesPart S.seal_of T.seek_refuses place e) writer.old writer.new)) }
@@ -138,9 +144,9 @@ fn at_bytes<S: Suite, I: Identity, T: Seek + Drop, W: Write>(
 /// Reads a file, bare or armored, to its end into memory, and appends the `count` bytes of its plaintext from `place` on, or
 /// fewer at the end, to `writer`. One of the identities decrypts it.
 ///
-/// The seek is by the length of the payload, and only the chunks that hold the bytes are opened. A place after the end of the
-/// plaintext is `PastEnd`. After a refusal a beginning of the bytes was appended, and after one of the header nothing. The
-/// refusals are those of `read_to_end`, of `decrypt_all` for the header, and of `write_part`; what the payload is refused for is said only under a right MAC.
+/// The seek is by the length of the payload, and only the chunks that hold the bytes are opened. A place after the end of the plaintext
+/// is `PastEnd`. After a refusal a beginning of the bytes was appended, and after one of the header nothing. The refusals are those of
+/// `read_to_end`, of `decrypt_all` for the header, and of `write_part`; what the payload is refused for is said only under a right MAC.
 pub fn at<S: Suite, I: Identity, R: Read, W: Write>(
     alloc: Global,
     identities: &mut [I],
@@ -150,7 +156,8 @@ pub fn at<S: Suite, I: Identity, R: Read, W: Write>(
     writer: &mut W,
 ) -> Result<(), FileError>
     ensures { DecryptsPart ⟦<S as Suite>⟧ ⟦<R as Read>⟧ ⟦<W as Write>⟧ (GivesFirst I.unwraps identities.old identities.new)
-        (AnswersFirst I.unwraps identities.old identities.new) (IsFileFor S.seal_of (FirstAnswer I.unwraps identities.old)) place count reader.old reader.new writer.old writer.new result }
+        (AnswersFirst I.unwraps identities.old identities.new)
+        (IsFileFor S.seal_of (FirstAnswer I.unwraps identities.old)) place count reader.old reader.new writer.old writer.new result }
 {
     let mut text = Vec::new(alloc);
     match read_to_end(alloc, reader, &mut text) {
@@ -178,10 +185,12 @@ fn at_text<S: Suite, I: Identity, W: Write>(
         (GivesFirst I.unwraps identities.old identities.new)
         W.appended count (IsPartAt S.seal_of place count) writer.old writer.new) }
     ensures refused { IfErr result (λ e. IsDecryptError e → writer.new ≡ writer.old) }
-    ensures why { IfErr result (DecryptsUnless (RefusesOpening text.now (HasFront (read_of text.now) 0) (AnswersFirst I.unwraps identities.old identities.new))) }
+    ensures why { IfErr result (DecryptsUnless
+        (RefusesOpening text.now (HasFront (read_of text.now) 0) (AnswersFirst I.unwraps identities.old identities.new))) }
     ensures io { IfErr result (IfIo (λ e. (e ≡ OutOfMemory) ⊎ HandsOn W.refuses writer.old e
         ⊎ IsOutside e ⊎ (e ≡ Failed) ⊎ RefusesReading text.now e ⊎ IsPayloadRefusal e)) }
-    ensures cause { IsTrue (W.tells writer.old) → IfErr result (IfIo (λ e. (e ≡ OutOfMemory) ⊎ HandsOn W.refuses writer.old e ⊎ RefusesReading text.now e
+    ensures cause { IsTrue (W.tells writer.old)
+        → IfErr result (IfIo (λ e. (e ≡ OutOfMemory) ⊎ HandsOn W.refuses writer.old e ⊎ RefusesReading text.now e
         ⊎ AppendsOf (HasFront (stretch_of (text_delivers text.now true)) 0) (GivesFirst I.unwraps identities.old identities.new) W.appended count
         (RefusesPart S.seal_of (λ f. f ≡ Failed) place e) writer.old writer.new)) }
 {

@@ -79,6 +79,7 @@ pub(crate) fn write_payload<S: Suite, R: Read, W: Write>(
     ensures { (key : List ℕ) (first : W) → WasMade key first stream.old →
         WritesMade ⟦<R as Read>⟧ ⟦<W as Write>⟧ (payload S.seal_of key) reader.old reader.new first (inner_of stream.new, result) }
 {
+    // A fact for the proof alone.
     sent_law::<S, W>();
     match copy_all(alloc, reader, stream) {
         Ok(()) => stream.close(),
@@ -102,7 +103,8 @@ pub fn open_all<S: Suite, R: Read, W: Write>(
     ensures front { IsTrue (R.tells reader.old && R.steady reader.old) → IsTrue (W.tells writer.old) →
         AppendsFront W.appended (payload_delivers S.opened key 0 (R.rest reader.old)).bytes writer.old writer.new }
     ensures why { IfErr result (λ e. (e ≡ OutOfMemory) ⊎ HandsOn W.refuses writer.old e ⊎ OwnOrInner ⟦<R as Read>⟧
-        (Stops S.seal_of key (from_place (R.place reader.old) (R.content reader.old)) (IsTrue (R.tells reader.old && R.steady reader.old))) reader.old e) }
+        (Stops S.seal_of key (from_place (R.place reader.old) (R.content reader.old)) (IsTrue (R.tells reader.old && R.steady reader.old)))
+        reader.old e) }
 {
     let mut stream = StreamReader::<S, &mut R>::with_payload_key(alloc, key, reader)?;
     copy_all(alloc, &mut stream, writer)

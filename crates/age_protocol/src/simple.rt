@@ -1,5 +1,5 @@
 //! Whole files in one call.
-ghost use Rattle.std.specs.Prelude.{◌≡◌, ◌≢◌, ℕ, ◌^◌, ◌<◌, ◌≤◌, false, List, [], ◌∷◌, length, Some, Result, IsTrue, IfOk, IfErr, OnOk, MatchResult, string_bytes, vec_items};
+ghost use Rattle.std.specs.Prelude.{◌≡◌, ℕ, ◌<◌, List, [], ◌∷◌, Some, Result, IfOk, IfErr, MatchResult, string_bytes, vec_items};
 ghost use Rattle.std.specs.Result.{result_map_both};
 ghost use Rattle.age_error.specs.DecryptErrors.{decrypt_refusal, OutOfMemory};
 ghost use Rattle.age_error.specs.EncryptErrors.{EncryptRefusal, encrypt_refusal};
@@ -33,6 +33,7 @@ fn encrypt_as<S: Suite, T: Recipient>(
         × Prepares T.wraps (recipient.now ∷ []) (Some grease) draw.old outcome draw.new
         × Encrypts S.seal_of (text_of format) plaintext.now outcome (result_map_both vec_items (λ e. encrypt_refusal e) result) }
 {
+    // For the proof alone: these are bytes, each below 256.
     known_bytes(plaintext);
     let mut reader = Bytes::new(plaintext);
     let mut file = Vec::new(alloc);
@@ -109,11 +110,13 @@ fn plaintext_of<S: Suite, I: Identity>(
     ensures success { IfOk result (λ plain. Decrypts S.seal_of I.unwraps identity.old file.now plain.items identity.new) }
     ensures refused { IfErr result (λ e. RefusesDecrypting S.seal_of I.unwraps identity.old file.now identity.new (decrypt_refusal e)) }
 {
+    // For the proof alone: these are bytes, each below 256.
     known_bytes(file);
     let input = ArmoredReader::new_buffered(alloc, Bytes::new(file))?;
     let mut reader = open_file_by_one::<S, I, ArmoredReader<Bytes>>(alloc, identity, input)?;
     let mut plaintext = Vec::new(alloc);
     read_to_end(alloc, &mut reader, &mut plaintext)?;
+    // For the proof alone: these are bytes, each below 256.
     known_bytes(&plaintext);
     Ok(plaintext)
 }
@@ -139,7 +142,8 @@ pub fn decrypt<S: Suite, I: Identity>(
     ensures success { IfOk result (λ plain. Decrypts S.seal_of I.unwraps identity.old file.now plain.items identity.new) }
     ensures refused { IfErr result (λ e. RefusesDecrypting S.seal_of I.unwraps identity.old file.now identity.new (decrypt_refusal e)) }
     // A file whose file key the identity gets is refused for want of memory alone, and gives nothing but its plaintext.
-    ensures honest { (carried plain : List ℕ) → Carries file.now carried → IsFileFor S.seal_of (FirstAnswer I.unwraps (identity.old ∷ [])) plain carried →
+    ensures honest { (carried plain : List ℕ) → Carries file.now carried
+        → IsFileFor S.seal_of (FirstAnswer I.unwraps (identity.old ∷ [])) plain carried →
         MatchResult result (λ given. given.items ≡ plain) (λ e. decrypt_refusal e ≡ OutOfMemory) }
 {
     carried_files::<S, I>();

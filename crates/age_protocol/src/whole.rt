@@ -54,12 +54,14 @@ pub fn encrypt_all<S: Suite, T: Recipient, R: Read, W: Write>(
     // After any other refusal a beginning of the file in this form was appended.
     ensures front { IsTrue (R.tells reader.old) → IsTrue (W.tells writer.old) → IfErr result (IfIo (λ _.
         (file : Prepared) × Prepares T.wraps recipients.now (Some grease) draw.old (Ok file) draw.new
-        × AppendsFront W.appended (text_of format (file_text S.seal_of file.file_key file.stanzas file.nonce (R.rest reader.old).bytes)) writer.old writer.new)) }
+        × AppendsFront W.appended (text_of format (file_text S.seal_of file.file_key file.stanzas file.nonce (R.rest reader.old).bytes))
+        writer.old writer.new)) }
     // The file was prepared, and the reader refuses, or the writer, memory or the length does: the reader only where it has a fault.
     ensures io { IfErr result (IfIo (λ e.
         ((file : Prepared) × Prepares T.wraps recipients.now (Some grease) draw.old (Ok file) draw.new)
         × RefusesWriting ⟦<R as Read>⟧ ⟦<W as Write>⟧ reader.old reader.new writer.old writer.new e)) }
 {
+    // A fact for the proof alone.
     files_carry_themselves::<S>();
     armor_is_carrying();
     let encryptor = Encryptor::<S>::with_recipients(alloc, recipients, draw, grease)?;
@@ -80,7 +82,8 @@ fn write_binary<S: Suite, R: Read, W: Write>(
     ensures made { WritesMade ⟦<R as Read>⟧ ⟦<W as Write>⟧ (λ plain. file_text S.seal_of encryptor.file_key encryptor.stanzas encryptor.nonce plain)
         reader.old reader.new output result }
     ensures is_file { OnOk result.1 ((plain : List ℕ) →
-        IsFileOf S.seal_of encryptor.file_key encryptor.stanzas plain (file_text S.seal_of encryptor.file_key encryptor.stanzas encryptor.nonce plain)) }
+        IsFileOf S.seal_of encryptor.file_key encryptor.stanzas plain
+        (file_text S.seal_of encryptor.file_key encryptor.stanzas encryptor.nonce plain)) }
     ensures bytes { OnOk result.1 ((plain : List ℕ) → AreBytes plain →
         AreBytes (file_text S.seal_of encryptor.file_key encryptor.stanzas encryptor.nonce plain)) }
 {
@@ -117,10 +120,12 @@ fn write_file<S: Suite, R: Read, W: Write>(
     reader: &mut R,
     writer: W,
 ) -> (W, Result<(), io::Error>)
-    ensures made { WritesMade ⟦<R as Read>⟧ ⟦<W as Write>⟧ (λ plain. text_of format (file_text S.seal_of encryptor.file_key encryptor.stanzas encryptor.nonce plain))
+    ensures made { WritesMade ⟦<R as Read>⟧ ⟦<W as Write>⟧
+        (λ plain. text_of format (file_text S.seal_of encryptor.file_key encryptor.stanzas encryptor.nonce plain))
         reader.old reader.new writer result }
     ensures is_file { OnOk result.1 ((plain : List ℕ) →
-        IsFileOf S.seal_of encryptor.file_key encryptor.stanzas plain (file_text S.seal_of encryptor.file_key encryptor.stanzas encryptor.nonce plain)) }
+        IsFileOf S.seal_of encryptor.file_key encryptor.stanzas plain
+        (file_text S.seal_of encryptor.file_key encryptor.stanzas encryptor.nonce plain)) }
     ensures bytes { OnOk result.1 ((plain : List ℕ) → AreBytes plain →
         AreBytes (file_text S.seal_of encryptor.file_key encryptor.stanzas encryptor.nonce plain)) }
 {
@@ -156,6 +161,7 @@ pub fn decrypt_all<S: Suite, I: Identity, R: Read, W: Write>(
 {
     let text = ArmoredReader::new(alloc, reader)?;
     let mut stream = open_file::<S, I, ArmoredReader<BufReader<&mut R>>>(alloc, identities, text)?;
+    // A fact for the proof alone.
     reader_law(&stream);
     copy_all(alloc, &mut stream, writer)?;
     Ok(())

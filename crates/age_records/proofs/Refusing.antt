@@ -12,13 +12,14 @@ use Rattle.age_stream.specs.Reader.{payload_of, key_of, tells_of, content_of, fa
 use Rattle.age_stream.specs.declared.reader.StreamReader.{StreamReader}
 use Rattle.age_suite.specs.declared.suite.Suite.{Ghosts as SuiteGhosts}
 use Rattle.age_records.specs.Text.{HoldsRecords, number_text}
-use Rattle.age_records.specs.Standing.{HasRecords, HoldsNone}
+use Rattle.age_records.specs.Standing.{HoldsNone}
 use Rattle.age_records.specs.Payloads.{AddsNone, HasBytes, IsCounted, RefusesCount, RefusesRange, RefusesRecord, SamePayload, SaysCount, Stands}
 use Rattle.age_records.specs.declared.error.RecordError.{RecordError}
 
 module _ {S R : Type 0} {suite : SuiteGhosts S} {read : Ghosts R} where
   -- where no reason comes with a step, none does where interruptions are tried again
-  pub adds-none-tried : (old new : StreamReader S R suite read) → AddsNoReason (λ (r : StreamReader S R suite read). refuses_of r) old new → AddsNone old new
+  pub adds-none-tried : (old new : StreamReader S R suite read) → AddsNoReason (λ (r : StreamReader S R suite read). refuses_of r) old new
+      → AddsNone old new
   adds-none-tried old new none e why = elim why [
     | inl plain ↦ inl (plain.0, none e plain.1)
     | inr worn ↦ inr (worn.0, none (Device Interrupted) worn.1)
@@ -38,7 +39,8 @@ module _ {S R : Type 0} {suite : SuiteGhosts S} {read : Ghosts R} where
     ended = λ some. stands-before old mid (8 * count) _ same told (says.ended some);
   }
 
-  pub none-before : (old mid : StreamReader S R suite read) (len : ℕ) → SamePayload old mid → IsTrue (tells_of old) → HoldsNone (Stands mid) len → HoldsNone (Stands old) len
+  pub none-before : (old mid : StreamReader S R suite read) (len : ℕ) → SamePayload old mid → IsTrue (tells_of old) → HoldsNone (Stands mid) len
+      → HoldsNone (Stands old) len
   none-before old mid len same told none = elim none [
     | inl short ↦ inl short
     | inr (n, counted, inl few) ↦ inr (n, stands-before old mid 0 (number_text n) same told counted, inl few)
@@ -54,20 +56,9 @@ module _ {S R : Type 0} {suite : SuiteGhosts S} {read : Ghosts R} where
     )
   ]
 
-  -- the same of a reader of the same payload
-  pub counted-later : (old new : StreamReader S R suite read) (count total : ℕ) → SamePayload old new → IsCounted count total old → IsCounted count total new
-  counted-later old new count total same counted = record {
-    fits = counted.fits;
-    none = counted.none;
-    sized = λ told. let before = sym same.tells ∙ told in ap (λ s. plain_len (length s.bytes)) (same.payload before) ∙ counted.sized before;
-    holds = λ told well.
-        let before = sym same.tells ∙ told in
-        let content = same.content before in
-        subst (λ s. HasRecords s.bytes count total) (sym content) (counted.holds before (ap (λ s. s.ends_well) (sym content) ∙ well));
-  }
-
   -- a number that has room in the plaintext can't be missing
-  pub count-refused : (old mid new : StreamReader S R suite read) (past behind : ℕ) (e : RecordError) → SamePayload old mid → faults_of mid ≤ faults_of new → past ≤ 8 + behind →
+  pub count-refused : (old mid new : StreamReader S R suite read) (past behind : ℕ) (e : RecordError) → SamePayload old mid
+      → faults_of mid ≤ faults_of new → past ≤ 8 + behind →
       (IsTrue (tells_of old) → plain_len (length (payload_of old).bytes) ≡ Some (8 + behind)) →
       (IsTrue (tells_of old) → IsTrue (content_of old).ends_well → length (content_of old).bytes ≡ 8 + behind) →
       RefusesRange past mid new e → RefusesCount old new e
@@ -92,15 +83,18 @@ module _ {S R : Type 0} {suite : SuiteGhosts S} {read : Ghosts R} where
     known = refused.known;
     device = λ is. omega (arith, same.faults, refused.device is);
     stands = λ told is len plain.
-        none-before old mid len same told (refused.stands (same.tells ∙ told) is len (ap (λ s. plain_len (length s.bytes)) (same.payload told) ∙ plain));
+        none-before old mid len same told (refused.stands (same.tells ∙ told) is len
+        (ap (λ s. plain_len (length s.bytes)) (same.payload told) ∙ plain));
     damaged = λ told well is holds.
         let content = same.content told in
         refused.damaged (same.tells ∙ told) (ap (λ s. s.ends_well) content ∙ well) is (subst (λ s. HoldsRecords s.bytes) (sym content) holds);
-    cause = λ told well quiet. refused.cause (same.tells ∙ told) (ap (λ s. s.ends_well) (same.content told) ∙ well) (quiet_from same.faults rises quiet);
+    cause = λ told well quiet. refused.cause (same.tells ∙ told) (ap (λ s. s.ends_well) (same.content told) ∙ well)
+        (quiet_from same.faults rises quiet);
   }
 
   -- the bytes of a record whose ends are good can't be missing
-  pub record-refused : (old mid new : StreamReader S R suite read) (count total i end : ℕ) (e : RecordError) → SamePayload old mid → faults_of mid ≤ faults_of new →
+  pub record-refused : (old mid new : StreamReader S R suite read) (count total i end : ℕ) (e : RecordError) → SamePayload old mid
+      → faults_of mid ≤ faults_of new →
       IsCounted count total old → end ≤ total → RefusesRange (8 + 8 * count + end) mid new e → RefusesRecord count total i old new e
   record-refused old mid new count total i end e same rises counted inside refused = record {
     missing = λ is. absurd (refused.known is);

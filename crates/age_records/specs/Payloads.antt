@@ -18,16 +18,16 @@ use Rattle.age_records.specs.declared.error.RecordError.{RecordError}
 use Rattle.age_records.specs.declared.error.RecordError.TheVariants.{NoSuchRecord, Damaged, Io}
 
 -- this refusal says that the payload's device failed
-abbrev pub IsDeviceRefusal : RecordError → Type 0
-IsDeviceRefusal NoSuchRecord = ⊥
-IsDeviceRefusal Damaged = ⊥
-IsDeviceRefusal (Io e) = IsDevice e
+abbrev pub IsDeviceError : RecordError → Type 0
+IsDeviceError NoSuchRecord = ⊥
+IsDeviceError Damaged = ⊥
+IsDeviceError (Io e) = IsDevice e
 
 -- what holds of the reader's refusal, where it is one
-abbrev pub IfIo : (Error → Type 0) → RecordError → Type 0
-IfIo Holds NoSuchRecord = ⊤
-IfIo Holds Damaged = ⊤
-IfIo Holds (Io e) = Holds e
+abbrev pub IfReaderRefuses : (Error → Type 0) → RecordError → Type 0
+IfReaderRefuses Holds NoSuchRecord = ⊤
+IfReaderRefuses Holds Damaged = ⊤
+IfReaderRefuses Holds (Io e) = Holds e
 
 -- by the payload's length its plaintext has as many bytes
 pub record HasBytes (payload : Stretch) (size : ℕ) : Type 0 where
@@ -42,7 +42,8 @@ module _ {S R : Type 0} {suite : SuiteGhosts S} {read : Ghosts R} where
 
   -- Why reading may refuse: for want of memory, as seeks in a payload do, or as the reader's reads do, its interruptions tried again.
   abbrev pub MayRefuse : (Error → Type 0) → StreamReader S R suite read → Error → Type 0
-  MayRefuse seek_refuses r e = (e ≡ OutOfMemory) ⊎ (IsSeekRefusal (OrTooLong seek_refuses) e ⊎ TriedAgain (λ (s : StreamReader S R suite read). refuses_of s) r e)
+  MayRefuse seek_refuses r e = (e ≡ OutOfMemory)
+      ⊎ (IsSeekRefusal (OrTooLong seek_refuses) e ⊎ TriedAgain (λ (s : StreamReader S R suite read). refuses_of s) r e)
 
   -- what the new reader may refuse with, the old one may
   abbrev pub AddsNone : StreamReader S R suite read → StreamReader S R suite read → Type 0
@@ -61,7 +62,7 @@ module _ {S R : Type 0} {suite : SuiteGhosts S} {read : Ghosts R} where
   -- and has them, for want of memory or since the device failed.
   pub record RefusesRange (past : ℕ) (old new : StreamReader S R suite read) (e : RecordError) : Type 0 where
     pub known : e ≡ NoSuchRecord → ⊥
-    pub device : IsDeviceRefusal e → faults_of old < faults_of new
+    pub device : IsDeviceError e → faults_of old < faults_of new
     pub damaged : IsTrue (tells_of old) → HasBytes (payload_of old) past → e ≡ Damaged → ⊥
     pub cause : IsTrue (tells_of old) → IsTrue (content_of old).ends_well → past ≤ length (content_of old).bytes →
         IsQuiet (faults_of old) (faults_of new) → e ≡ Io OutOfMemory
@@ -82,7 +83,7 @@ module _ {S R : Type 0} {suite : SuiteGhosts S} {read : Ghosts R} where
   -- want of memory or since the device failed.
   pub record RefusesCount (old new : StreamReader S R suite read) (e : RecordError) : Type 0 where
     pub known : e ≡ NoSuchRecord → ⊥
-    pub device : IsDeviceRefusal e → faults_of old < faults_of new
+    pub device : IsDeviceError e → faults_of old < faults_of new
     pub stands : IsTrue (tells_of old) → e ≡ Damaged → (len : ℕ) → plain_len (length (payload_of old).bytes) ≡ Some len → HoldsNone (Stands old) len
     pub damaged : IsTrue (tells_of old) → IsTrue (content_of old).ends_well → e ≡ Damaged → HoldsRecords (content_of old).bytes → ⊥
     pub cause : IsTrue (tells_of old) → IsTrue (content_of old).ends_well → IsQuiet (faults_of old) (faults_of new) →
@@ -91,7 +92,7 @@ module _ {S R : Type 0} {suite : SuiteGhosts S} {read : Ghosts R} where
   -- Reading record i of so many is refused: there is none, its ends are damaged, or it can't be read.
   pub record RefusesRecord (count total i : ℕ) (old new : StreamReader S R suite read) (e : RecordError) : Type 0 where
     pub missing : e ≡ NoSuchRecord → count ≤ i
-    pub device : IsDeviceRefusal e → faults_of old < faults_of new
+    pub device : IsDeviceError e → faults_of old < faults_of new
     pub damaged : IsTrue (tells_of old) → e ≡ Damaged → HasBadEnds (Stands old) total i
     pub cause : IsTrue (tells_of old) → IsTrue (content_of old).ends_well → IsQuiet (faults_of old) (faults_of new) →
         (e ≡ Io OutOfMemory) ⊎ (record_at (content_of old).bytes i ≡ Err e)

@@ -13,7 +13,7 @@ use Rattle.age_stream.specs.declared.reader.StreamReader.{StreamReader}
 use Rattle.age_suite.specs.declared.suite.Suite.{Ghosts as SuiteGhosts}
 use Rattle.age_records.specs.Text.{HoldsRecords, count_of, record_at, records_text}
 use Rattle.age_records.specs.Standing.{HoldsNone, IsRecordAt}
-use Rattle.age_records.specs.Payloads.{AddsNone, IfIo, MayRefuse, RefusesRecord, SamePayload, SaysCount, Stands}
+use Rattle.age_records.specs.Payloads.{AddsNone, IfReaderRefuses, MayRefuse, RefusesRecord, SamePayload, SaysCount, Stands}
 use Rattle.age_records.specs.declared.error.RecordError.{RecordError}
 use Rattle.age_records.specs.declared.error.RecordError.TheVariants.{NoSuchRecord, Damaged, Io}
 use Rattle.age_records.specs.declared.reading.Records.{Records}
@@ -42,11 +42,12 @@ module _ {S R : Type 0} {suite : SuiteGhosts S} {read : Ghosts R} where
     pub reader : SamePayload (reader_of old) (reader_of new)
 
   -- Opening records: they are in the reader's payload, and at most 9 chunks were opened.
-  pub record OpensRecords (seek_refuses : Error → Type 0) (reader : StreamReader S R suite read) (result : Result (Records S R suite read) RecordError) : Type 0 where
+  pub record OpensRecords (seek_refuses : Error → Type 0) (reader : StreamReader S R suite read)
+      (result : Result (Records S R suite read) RecordError) : Type 0 where
     pub same : IfOk result (λ r. SamePayload reader (reader_of r))
     pub opens : IfOk result (λ r. opens_of (reader_of r) ≤ opens_of reader + 9)
     -- why it is refused, and that what was opened has no new reason to refuse
-    pub why : IfErr result (IfIo (MayRefuse seek_refuses reader))
+    pub why : IfErr result (IfReaderRefuses (MayRefuse seek_refuses reader))
     pub narrows : IfOk result (λ r. AddsNone reader (reader_of r))
     -- of any payload: the number of records and the last end stand in it, and `Damaged` says that no text of records does
     pub says : IsTrue (tells_of reader) → IfOk result (λ r. SaysCount (len_of r) (total_of r) reader)
@@ -71,7 +72,7 @@ module _ {S R : Type 0} {suite : SuiteGhosts S} {read : Ghosts R} where
     pub beyond : len_of old ≤ i → (result ≡ Err NoSuchRecord) × (new ≡ old)
     -- why it is refused, and that a success leaves no new reason
     pub refused : IfErr result (RefusesRecord (len_of old) (total_of old) i (reader_of old) (reader_of new))
-    pub why : IfErr result (IfIo (MayRefuse seek_refuses (reader_of old)))
+    pub why : IfErr result (IfReaderRefuses (MayRefuse seek_refuses (reader_of old)))
     pub narrows : OnOk result (AddsNone (reader_of old) (reader_of new))
     -- of any payload: it is what its two ends name
     pub named : IsTrue (tells_of (reader_of old)) → IfOk result (λ bytes. IsRecordAt (Stands (reader_of old)) (len_of old) i bytes.items)
@@ -81,4 +82,5 @@ module _ {S R : Type 0} {suite : SuiteGhosts S} {read : Ghosts R} where
     -- of what was written: it is the record, or there is none, or memory was refused, or the device failed
     pub written : (records : List (List ℕ)) → IsTrue (tells_of (reader_of old)) → content_of (reader_of old) ≡ whole (records_text records) →
         MatchResult result (λ bytes. slice_get records i ≡ Some bytes.items)
-        (λ e. IsQuiet (faults_of (reader_of old)) (faults_of (reader_of new)) → (e ≡ Io OutOfMemory) ⊎ ((e ≡ NoSuchRecord) × (slice_get records i ≡ None)))
+        (λ e. IsQuiet (faults_of (reader_of old)) (faults_of (reader_of new))
+        → (e ≡ Io OutOfMemory) ⊎ ((e ≡ NoSuchRecord) × (slice_get records i ≡ None)))

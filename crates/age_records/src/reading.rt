@@ -1,9 +1,9 @@
 //! Reading records.
-ghost use Rattle.std.specs.Prelude.{◌≡◌, ℕ, ◌+◌, ◌*◌, ◌/◌, ◌^◌, ◌<◌, ◌≤◌, suc, ◌-◌, IsTrue, length, take, drop, IfOk, IfErr, OnOk, vec_len, Ok};
+ghost use Rattle.std.specs.Prelude.{◌≡◌, ◌+◌, ◌*◌, ◌/◌, ◌^◌, ◌<◌, ◌≤◌, suc, ◌-◌, IsTrue, length, take, drop, IfOk, IfErr, OnOk, vec_len, Ok};
 ghost use Rattle.age_stream.specs.Reader.{tells_of, content_of, opens_of};
 ghost use Rattle.age_records.specs.Text.{end_before, record_at};
 ghost use Rattle.age_records.specs.Standing.{HasEnds, IsRecordAt};
-ghost use Rattle.age_records.specs.Payloads.{AddsNone, IfIo, IsCounted, MayRefuse, RefusesRange, RefusesRecord, SamePayload, Stands};
+ghost use Rattle.age_records.specs.Payloads.{AddsNone, IfReaderRefuses, IsCounted, MayRefuse, RefusesRange, RefusesRecord, SamePayload, Stands};
 
 use crate::counting::count_in;
 use crate::error::RecordError;
@@ -43,7 +43,7 @@ fn ends_of<S: Suite, R: Seek>(
     ensures ends { IsTrue (tells_of reader.old) → IfOk result (λ found. HasEnds (Stands reader.old) index found.0 found.1) }
     ensures value { IsTrue (tells_of reader.old) → IsTrue (content_of reader.old).ends_well → IfOk result (λ found.
         (found.0 ≡ end_before (content_of reader.old).bytes index) × (found.1 ≡ end_before (content_of reader.old).bytes (suc index))) }
-    ensures why { IfErr result (IfIo (MayRefuse R.seek_refuses reader.old)) }
+    ensures why { IfErr result (IfReaderRefuses (MayRefuse R.seek_refuses reader.old)) }
     ensures narrows { OnOk result (AddsNone reader.old reader.new) }
     ensures refused { IfErr result (RefusesRange (8 * index + 16) reader.old reader.new) }
     ensures opens { opens_of reader.new ≤ opens_of reader.old + 4 }
@@ -72,7 +72,7 @@ fn bytes_between<S: Suite, R: Seek>(
     ensures stands { IsTrue (tells_of reader.old) → IfOk result (λ bytes. Stands reader.old (front + start) bytes.items) }
     ensures value { IsTrue (tells_of reader.old) → IsTrue (content_of reader.old).ends_well →
         IfOk result (λ bytes. bytes.items ≡ take (end - start) (drop (front + start) (content_of reader.old).bytes)) }
-    ensures why { IfErr result (IfIo (MayRefuse R.seek_refuses reader.old)) }
+    ensures why { IfErr result (IfReaderRefuses (MayRefuse R.seek_refuses reader.old)) }
     ensures narrows { OnOk result (AddsNone reader.old reader.new) }
     ensures refused { IfErr result (RefusesRange (front + end) reader.old reader.new) }
     ensures opens { opens_of reader.new ≤ opens_of reader.old + (end - start) / 65536 + 4 }
@@ -101,7 +101,7 @@ fn record_in<S: Suite, R: Seek>(
     ensures named { IsTrue (tells_of reader.old) → IfOk result (λ bytes. IsRecordAt (Stands reader.old) count index bytes.items) }
     ensures value { IsTrue (tells_of reader.old) → IsTrue (content_of reader.old).ends_well →
         IfOk result (λ bytes. record_at (content_of reader.old).bytes index ≡ Ok bytes.items) }
-    ensures why { IfErr result (IfIo (MayRefuse R.seek_refuses reader.old)) }
+    ensures why { IfErr result (IfReaderRefuses (MayRefuse R.seek_refuses reader.old)) }
     ensures narrows { OnOk result (AddsNone reader.old reader.new) }
     ensures refused { IfErr result (RefusesRecord count total index reader.old reader.new) }
     ensures opens { opens_of reader.new ≤ opens_of reader.old + total / 65536 + 8 }
@@ -133,6 +133,7 @@ impl<S: Suite, R: Seek> Records<S, R> {
         R: Drop,
         ensures { OpensRecords R.seek_refuses reader result }
     {
+        // For the proof alone: what the type keeps of it.
         known_short(&reader);
         match count_in(&mut reader) {
             Err(e) => Err(e),

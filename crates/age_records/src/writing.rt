@@ -128,6 +128,7 @@ pub fn write_records<S: Suite, W: Write>(
     if !is_plaintext(records) {
         return Err(Error::TooLong);
     }
+    // A fact for the proof alone.
     sent_law::<S, W>();
     put_text(writer, records)
 }

@@ -66,7 +66,9 @@ payload_at found key place p q =
 front_length : (file_key : List ℕ) (stanzas : List StanzaValue) (nonce : List ℕ) → length nonce ≡ 16
     → length (file_front file_key stanzas nonce) ≡ length (header_text stanzas (header_mac file_key (covered_text stanzas))) + 16
 unfolding file_front
-front_length file_key stanzas nonce sixteen = length-append (header_text stanzas (header_mac file_key (covered_text stanzas))) nonce ∙ ap (λ n. length (header_text stanzas (header_mac file_key (covered_text stanzas))) + n) sixteen
+front_length file_key stanzas nonce sixteen =
+    length-append (header_text stanzas (header_mac file_key (covered_text stanzas))) nonce
+    ∙ ap (λ n. length (header_text stanzas (header_mac file_key (covered_text stanzas))) + n) sixteen
 
 pub key_is : (file_key nonce key : List ℕ) → key ≡ hkdf_of nonce (codes "payload") file_key → key ≡ payload_key file_key nonce
 unfolding payload_key
@@ -84,7 +86,8 @@ module _ (reads : ReadsBack) (one : HasOneVerdict) (front : List ℕ) where
         let verdict = verdict_of in
         undecided (header_text stanzas mac) verdict.more (Header stanzas mac) verdict.whole verdict.decides
     long_enough (inr (h, has, short)) =
-        let same = one canonical front (header_text h.stanzas h.mac) (header_text stanzas mac) (Header h.stanzas h.mac) (Header stanzas mac) has verdict_of in
+        let same = one canonical front (header_text h.stanzas h.mac) (header_text stanzas mac) (Header h.stanzas h.mac)
+        (Header stanzas mac) has verdict_of in
         omega (
           arith,
           short,
@@ -101,7 +104,8 @@ module _ (reads : ReadsBack) (one : HasOneVerdict) (front : List ℕ) where
         let same = one canonical front head (header_text stanzas mac) Bad (Header stanzas mac) bad verdict_of in
         no_bad stanzas mac same.1
     no_other InvalidHeader (inr (h, has, broken)) =
-        let same = one canonical front (header_text h.stanzas h.mac) (header_text stanzas mac) (Header h.stanzas h.mac) (Header stanzas mac) has verdict_of in
+        let same = one canonical front (header_text h.stanzas h.mac) (header_text stanzas mac) (Header h.stanzas h.mac)
+        (Header stanzas mac) has verdict_of in
         absurd (broken (subst (λ s. KeepsScryptRule s) (sym (same_stanzas h.stanzas stanzas h.mac mac same.1)) begins.rule))
     no_other UnknownFormat (head, unknown) =
         let same = one canonical front head (header_text stanzas mac) UnknownVersion (Header stanzas mac) unknown verdict_of in
@@ -121,7 +125,8 @@ module _ (reads : ReadsBack) (one : HasOneVerdict) (front : List ℕ) where
         let own : IsVerdict canonical front (header_text h.stanzas h.mac) (Header h.stanzas h.mac) =
         subst (λ input. IsVerdict canonical input (header_text h.stanzas h.mac) (Header h.stanzas h.mac)) (sym other.whole)
         (reads canonical h.stanzas h.mac (read ++ left) other.header) in
-        let same = one canonical front (header_text h.stanzas h.mac) (header_text stanzas mac) (Header h.stanzas h.mac) (Header stanzas mac) own verdict_of in
+        let same = one canonical front (header_text h.stanzas h.mac) (header_text stanzas mac) (Header h.stanzas h.mac)
+        (Header stanzas mac) own verdict_of in
         let after : read ++ left ≡ nonce ++ more = rest_same (header_text h.stanzas h.mac) (header_text stanzas mac) (read ++ left) (nonce ++ more)
         (ap length same.0) (sym other.whole ∙ begins.whole) in (
           same_stanzas h.stanzas stanzas h.mac mac same.1,
@@ -187,7 +192,11 @@ module _ (reads : ReadsBack) (one : HasOneVerdict) (front : List ℕ) where
             );
             honest = λ other stanzas read more file own.
                 let (stanzas_are, mac_is, nonce_is) = same_begin stanzas (header_mac other (covered_text stanzas)) read more file h nonce begins in
-                elim (own (Some (Ok file_key)) (asked, subst (λ s. AnswersFirst unwraps identities asked s (Some (Ok file_key))) stanzas_are answers)) [
+                elim (own (Some (Ok file_key)) (
+                  asked,
+                  subst
+                      (λ s. AnswersFirst unwraps identities asked s (Some (Ok file_key))) stanzas_are answers,
+                )) [
                   | inl is ↦
                       let same = same_key file_key other is in
                       ap (λ x. Some x) (payload_at found (payload_key other read) (length (file_front other stanzas read))

@@ -21,13 +21,15 @@ pub full_is : (number : ℕ) (sealed : List ℕ) → take 65552 (drop (65552 * n
 unfolding cut
 full_is number sealed = refl
 
-module _ (seal_of : Seal) (opened : List ℕ → List ℕ → List ℕ → Option (List ℕ)) (law : IsCipher seal_of opened) (key : List ℕ) (k : AreBytesOf 32 key) where
+module _ (seal_of : Seal) (opened : List ℕ → List ℕ → List ℕ → Option (List ℕ)) (law : IsCipher seal_of opened) (key : List ℕ)
+    (k : AreBytesOf 32 key) where
   -- the last chunk of a payload has the number of the last piece
   last_number : (plain : List ℕ) → AreBytes plain → final_chunk (length (payload seal_of key plain)) ≡ last_piece (length plain)
   last_number plain b = omega (arith, length-payload seal_of opened law key k plain b)
 
   -- A chunk of a payload is the seal of its piece, and has the length of a chunk.
-  is_chunk : (plain : List ℕ) (number : ℕ) (last : Bool) → AreBytes plain → number ≤ last_piece (length plain) → nat_eq number (last_piece (length plain)) ≡ last
+  is_chunk : (plain : List ℕ) (number : ℕ) (last : Bool) → AreBytes plain → number ≤ last_piece (length plain)
+      → nat_eq number (last_piece (length plain)) ≡ last
       → (chunk number (payload seal_of key plain) ≡ seal_of key (chunk_nonce number last) (piece number plain))
       × IsChunkLength last (length (seal_of key (chunk_nonce number last) (piece number plain)))
   is_chunk plain number true b fits is =
@@ -43,7 +45,8 @@ module _ (seal_of : Seal) (opened : List ℕ → List ℕ → List ℕ → Optio
       (chunk-payload seal_of opened law key k plain number b less, omega (arith, size, (are_pieces plain).full number less))
 
   -- the seal of a piece opens to it
-  opens : (plain : List ℕ) (number : ℕ) (last : Bool) → AreBytes plain → opened key (chunk_nonce number last) (seal_of key (chunk_nonce number last) (piece number plain)) ≡ Some (piece number plain)
+  opens : (plain : List ℕ) (number : ℕ) (last : Bool) → AreBytes plain
+      → opened key (chunk_nonce number last) (seal_of key (chunk_nonce number last) (piece number plain)) ≡ Some (piece number plain)
   opens plain number last b =
       let p = piece-bytes number plain b in
       (law.opens_exactly key (chunk_nonce number last) _ (piece number plain) k (nonce-bytes number last)
@@ -51,7 +54,8 @@ module _ (seal_of : Seal) (opened : List ℕ → List ℕ → List ℕ → Optio
 
   -- what a chunk of a payload is opened to is its piece
   gives_piece : (plain : List ℕ) (number : ℕ) (last : Bool) (answer : Result (List ℕ) Error) → AreBytes plain → number ≤ last_piece (length plain)
-      → nat_eq number (last_piece (length plain)) ≡ last → OpensChunk opened key number last (seal_of key (chunk_nonce number last) (piece number plain)) answer
+      → nat_eq number (last_piece (length plain)) ≡ last
+      → OpensChunk opened key number last (seal_of key (chunk_nonce number last) (piece number plain)) answer
       → MatchResult answer (λ given. given ≡ piece number plain) (λ e. e ≡ io.OutOfMemory)
   gives_piece plain number last (Ok given) b fits is (long, found, first) = let one = opens plain number last b in cc (one, found)
   gives_piece plain number last (Err e) b fits is (inl memory) = memory
@@ -73,14 +77,17 @@ module _ (seal_of : Seal) (opened : List ℕ → List ℕ → List ℕ → Optio
         let ends = ap (λ s. final_chunk (length s)) whole ∙ last_number plain b in
         let is_last = ap (λ n. nat_eq number n) (sym ends) ∙ is in
         let (seal, _) = is_chunk plain number last b within is_last in
-        gives_piece plain number last answer b within is_last (subst (λ text. OpensChunk opened key number last text answer) (ap (chunk number) whole ∙ seal) told);
+        gives_piece plain number last answer b within is_last
+        (subst (λ text. OpensChunk opened key number last text answer) (ap (chunk number) whole ∙ seal) told);
     outside = λ past. never answer past told;
   }
     where
       right : (answer : Result (List ℕ) Error) → OpensChunk opened key number last (chunk number sealed) answer
-          → IfOk answer (λ plain. AreBytes plain × (chunk number sealed ≡ seal_of key (chunk_nonce number (nat_eq number (final_chunk (length sealed)))) plain))
+          → IfOk answer (λ plain. AreBytes plain × (chunk number sealed
+          ≡ seal_of key (chunk_nonce number (nat_eq number (final_chunk (length sealed)))) plain))
       right (Ok plain) (long, found, first) =
-          rw is ((law.opens_exactly key (chunk_nonce number last) (chunk number sealed) plain k (nonce-bytes number last) (cut-bytes 65552 number sealed bytes)).0 found)
+          rw is ((law.opens_exactly key (chunk_nonce number last) (chunk number sealed) plain k (nonce-bytes number last)
+          (cut-bytes 65552 number sealed bytes)).0 found)
       right (Err e) told = tt
 
       never : (answer : Result (List ℕ) Error) → answer ≡ Err io.PastEnd → OpensChunk opened key number last (chunk number sealed) answer

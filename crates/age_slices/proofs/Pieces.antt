@@ -67,7 +67,8 @@ module _ (opened : List ℕ → List ℕ → List ℕ → Option (List ℕ)) (ke
   as_last text (inr none) = none_first (length text == 65552) (opened_as opened key number false text) (opened_as opened key number true text)
       (ap (λ o. option_map (λ plain. (plain, false)) o) none)
 
-  chunk_middle : (text piece : List ℕ) → is_empty text ≡ false → (length text == 65552) ≡ true → opened key (chunk_nonce number false) text ≡ Some piece
+  chunk_middle : (text piece : List ℕ) → is_empty text ≡ false → (length text == 65552) ≡ true
+      → opened key (chunk_nonce number false) text ≡ Some piece
       → ((piece ≡ []) → number ≡ 0) → nat_lt number (2 ^ 44) ≡ true → chunk_of opened key number text ≡ Ok (piece, false)
   unfolding chunk_of
   chunk_middle text piece some full opens first below = rw (some, full, opens) (allowed_piece number piece false first below)
@@ -91,7 +92,8 @@ module _ (opened : List ℕ → List ℕ → List ℕ → Option (List ℕ)) (ke
 
   -- the text as the last chunk is none, or an empty one after others
   abbrev NoLast : List ℕ → Type 0
-  NoLast text = (opened key (chunk_nonce number true) text ≡ None) ⊎ ((opened key (chunk_nonce number true) text ≡ Some []) × (nat_lt 0 number ≡ true))
+  NoLast text = (opened key (chunk_nonce number true) text ≡ None)
+      ⊎ ((opened key (chunk_nonce number true) text ≡ Some []) × (nat_lt 0 number ≡ true))
 
   chunk_bad : (text : List ℕ) (middle last : Stretch) → NoMiddle text → NoLast text
       → (after_chunk middle last (chunk_of opened key number text)).ends_well ≡ false
@@ -143,7 +145,8 @@ module _ (opened : List ℕ → List ℕ → List ℕ → Option (List ℕ)) (ke
   full_front many = length-take-le 65552 rest many
 
   -- a middle chunk
-  pub middle_delivers : (piece : List ℕ) → 65552 ≤ length rest → opened key (chunk_nonce number false) (take 65552 rest) ≡ Some piece → 0 < length piece
+  pub middle_delivers : (piece : List ℕ) → 65552 ≤ length rest → opened key (chunk_nonce number false) (take 65552 rest) ≡ Some piece
+      → 0 < length piece
       → number < 2 ^ 44
       → payload_delivers opened key number (whole rest) ≡ prepend piece (payload_delivers opened key (number + 1) (whole (drop 65552 rest)))
   middle_delivers piece many opens some below =
@@ -151,10 +154,12 @@ module _ (opened : List ℕ → List ℕ → List ℕ → Option (List ℕ)) (ke
       let full : length text ≡ 65552 = full_front many in
       let holds : chunk_of opened key number text ≡ Ok (piece, false) = chunk_middle opened key number text piece (some_of text (omega (arith, full)))
       (full_is (length text) full) opens (λ none. absurd (omega (arith, some, ap length none))) (below_is number (2 ^ 44) below) in
-      many_left many ∙ ap (λ r. after_chunk (payload_delivers opened key (number + 1) (whole (drop 65552 rest))) (after_last (drop 65552 rest) true) r) holds
+      many_left many ∙ ap (λ r. after_chunk (payload_delivers opened key (number + 1) (whole (drop 65552 rest)))
+      (after_last (drop 65552 rest) true) r) holds
 
   -- the last chunk
-  pub last_delivers : (piece : List ℕ) → IsNoMiddle opened key number rest → 0 < length rest → length rest ≤ 65552 → opened key (chunk_nonce number true) rest ≡ Some piece
+  pub last_delivers : (piece : List ℕ) → IsNoMiddle opened key number rest → 0 < length rest → length rest ≤ 65552
+      → opened key (chunk_nonce number true) rest ≡ Some piece
       → ((piece ≡ []) → number ≡ 0) → number < 2 ^ 44 → payload_delivers opened key number (whole rest) ≡ whole piece
   last_delivers piece (inl few) some fits opens first below =
       let holds : chunk_of opened key number rest ≡ Ok (piece, true) = chunk_last opened key number rest piece (some_of rest some)
@@ -174,7 +179,8 @@ module _ (opened : List ℕ → List ℕ → List ℕ → Option (List ℕ)) (ke
   unfolding chunk_of
   none_left none =
       let empty : rest ≡ [] = nil_from_length rest none in
-      ap (λ (s : Stretch). s.ends_well) (few_left (omega (arith, none)) ∙ ap (λ r. after_chunk nothing (after_last [] true) (chunk_of opened key number r)) empty)
+      ap (λ (s : Stretch). s.ends_well) (few_left (omega (arith, none))
+      ∙ ap (λ r. after_chunk nothing (after_last [] true) (chunk_of opened key number r)) empty)
 
   -- past the longest plaintext
   pub past_delivers : 2 ^ 44 ≤ number → (payload_delivers opened key number (whole rest)).ends_well ≡ false
@@ -193,11 +199,13 @@ module _ (opened : List ℕ → List ℕ → List ℕ → Option (List ℕ)) (ke
   more_delivers more none =
       let over : is_empty (drop 65552 rest) ≡ false = some_of (drop 65552 rest) (omega (arith, more, length-drop 65552 rest)) in
       ap (λ (s : Stretch). s.ends_well) (many_left (omega (arith, more)))
-      ∙ chunk_more opened key number (take 65552 rest) (payload_delivers opened key (number + 1) (whole (drop 65552 rest))) (after_last (drop 65552 rest) true)
+      ∙ chunk_more opened key number (take 65552 rest) (payload_delivers opened key (number + 1) (whole (drop 65552 rest)))
+      (after_last (drop 65552 rest) true)
       (inr none) (rw over refl)
 
   -- the rest is no last chunk: too long, or no seal, or an empty one after others
-  pub bad_delivers : IsNoMiddle opened key number rest → (65552 < length rest) ⊎ NoLast opened key number rest → (payload_delivers opened key number (whole rest)).ends_well ≡ false
+  pub bad_delivers : IsNoMiddle opened key number rest → (65552 < length rest) ⊎ NoLast opened key number rest
+      → (payload_delivers opened key number (whole rest)).ends_well ≡ false
   bad_delivers (inl few) (inl more) = absurd (omega (arith, few, more))
   bad_delivers (inl few) (inr bad) = ap (λ (s : Stretch). s.ends_well) (few_left few)
       ∙ chunk_bad opened key number rest nothing (after_last [] true) (inl (short_is (length rest) few)) bad
@@ -207,7 +215,8 @@ module _ (opened : List ℕ → List ℕ → List ℕ → Option (List ℕ)) (ke
     | inr fits ↦
         let text : take 65552 rest ≡ rest = take_all 65552 rest fits in
         ap (λ (s : Stretch). s.ends_well) (many_left none.0)
-        ∙ chunk_bad opened key number (take 65552 rest) (payload_delivers opened key (number + 1) (whole (drop 65552 rest))) (after_last (drop 65552 rest) true)
+        ∙ chunk_bad opened key number (take 65552 rest) (payload_delivers opened key (number + 1) (whole (drop 65552 rest)))
+        (after_last (drop 65552 rest) true)
         (inr none.1) (rw text bad)
   ]
 
@@ -220,7 +229,8 @@ opened_length seal_of opened cipher key nonce text piece of_key of_nonce bytes o
 
 -- a full text that isn't opened as a middle chunk is none
 pub no_middle : (opened : List ℕ → List ℕ → List ℕ → Option (List ℕ)) (key : List ℕ) (number : ℕ) (text : List ℕ) (e : Error)
-    → OpensChunk opened key number false text (Err e) → (e ≡ OutOfMemory → ⊥) → length text ≡ 65552 → opened key (chunk_nonce number false) text ≡ None
+    → OpensChunk opened key number false text (Err e) → (e ≡ OutOfMemory → ⊥) → length text ≡ 65552
+    → opened key (chunk_nonce number false) text ≡ None
 no_middle opened key number text e (inl memory) other full = absurd (other memory)
 no_middle opened key number text e (inr (inl (is, inl short))) other full = absurd (short full)
 no_middle opened key number text e (inr (inl (is, inr none))) other full = none

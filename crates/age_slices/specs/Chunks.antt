@@ -20,7 +20,8 @@ IsPieceLength true number n = (n ≤ 65536) × ((n ≡ 0) → number ≡ 0)
 -- last chunk that is empty and isn't the only one is refused as such.
 abbrev pub OpensChunk : (List ℕ → List ℕ → List ℕ → Option (List ℕ)) → List ℕ → ℕ → Bool → List ℕ → Result (List ℕ) Error → Type 0
 OpensChunk opened key number last text answer = MatchResult answer
-    (λ plain. IsChunkLength last (length text) × (opened key (chunk_nonce number last) text ≡ Some plain) × ((last ≡ true) → (plain ≡ []) → number ≡ 0))
+    (λ plain. IsChunkLength last (length text) × (opened key (chunk_nonce number last) text ≡ Some plain)
+    × ((last ≡ true) → (plain ≡ []) → number ≡ 0))
     (λ e. (e ≡ io.OutOfMemory)
     ⊎ ((e ≡ io.BadChunk) × ((IsChunkLength last (length text) → ⊥) ⊎ (opened key (chunk_nonce number last) text ≡ None)))
     ⊎ ((e ≡ io.LastChunkEmpty) × (last ≡ true) × (opened key (chunk_nonce number last) text ≡ Some []) × (0 < number)))

@@ -25,18 +25,18 @@ AreIdentities text secrets = (entries : List Entry) × AreEntries (lines text) e
     × (secrets ≡ native_secrets entries)
 
 -- why a text names no identities, or can't be told to
-abbrev pub RefusesIdentities : List ℕ → DecryptError → Type 0
-RefusesIdentities text e = (decrypt_refusal e ≡ OutOfMemory)
+abbrev pub RefusesIdentityText : List ℕ → DecryptError → Type 0
+RefusesIdentityText text e = (decrypt_refusal e ≡ OutOfMemory)
     ⊎ ((line : ℕ) × (e ≡ decrypt.Io (io.NotIdentity line)) × IsFirstBad (limited most_file_bytes (whole text)) line)
     ⊎ ((e ≡ decrypt.Io io.LimitExceeded) × IsTooLong most_file_bytes (whole text))
     ⊎ ((entries : List Entry) × AreEntries (lines text) entries × RefusesEntries entries (decrypt_refusal e))
 
 -- the same of what reading it refuses with
-abbrev pub RefusesText : List ℕ → Error → Type 0
-RefusesText text io.OutOfMemory = Unit {0}
-RefusesText text (io.NotIdentity line) = IsFirstBad (limited most_file_bytes (whole text)) line
-RefusesText text io.LimitExceeded = IsTooLong most_file_bytes (whole text)
-RefusesText text other = ⊥
+abbrev pub RefusesIdentityReading : List ℕ → Error → Type 0
+RefusesIdentityReading text io.OutOfMemory = Unit {0}
+RefusesIdentityReading text (io.NotIdentity line) = IsFirstBad (limited most_file_bytes (whole text)) line
+RefusesIdentityReading text io.LimitExceeded = IsTooLong most_file_bytes (whole text)
+RefusesIdentityReading text other = ⊥
 
 -- A whole file was read from a reader of the slice to an empty list, by the identities.
 abbrev pub DecryptsFrom : {I S R W : Type 0} → (I → List StanzaValue → UnwrapAnswer → I → Type 0) → SuiteMembers S → ReadMembers R
@@ -62,6 +62,6 @@ module _ {I S R W : Type 0} (unwraps : I → List StanzaValue → UnwrapAnswer �
     pub steps : DecryptsFrom unwraps suite read write identities asked file items answer
 
   -- By those that something stands for, or that is refused.
-  abbrev pub DecryptsBy : (DecryptError → Type 0) → (List I → Type 0) → List ℕ → Result (List ℕ) FileError → Type 0
-  DecryptsBy Refuses StandFor file answer = ((e : DecryptError) × (answer ≡ Err (files.Decrypt e)) × Refuses e)
+  abbrev pub DecryptsBytesBy : (DecryptError → Type 0) → (List I → Type 0) → List ℕ → Result (List ℕ) FileError → Type 0
+  DecryptsBytesBy Refuses StandFor file answer = ((e : DecryptError) × (answer ≡ Err (files.Decrypt e)) × Refuses e)
       ⊎ ((identities : List I) × (asked : List I) × StandFor identities × DecryptsBytes identities asked file answer)

@@ -47,7 +47,7 @@ pub record IsPayloadAt (file_key : List ℕ) (stanzas : List StanzaValue) (front
 
 module _ {I : Type 0} (unwraps : I → List StanzaValue → UnwrapAnswer → I → Type 0) (identities asked : List I) (front : List ℕ) where
   -- The front begins as a file, and what the identities answer to its stanzas, or its MAC, is why nothing is told.
-  pub record RefusesFront (e : DecryptRefusal) : Type 0 where
+  pub record TellsNothing (e : DecryptRefusal) : Type 0 where
     pub h : HeaderValue
     pub nonce : List ℕ
     pub begins : BeginsWith h nonce front
@@ -73,7 +73,7 @@ module _ {I : Type 0} (unwraps : I → List StanzaValue → UnwrapAnswer → I �
   -- stands there, and else not.
   pub record OpensHeader (answer : Result (Option PayloadAt) DecryptError) : Type 0 where
     pub success : MatchResult answer (λ found. MatchOption found ((asked ≡ identities) × IsTooShort front) TellsPayload)
-        (λ e. ((asked ≡ identities) × IsNoFront front (decrypt_refusal e)) ⊎ RefusesFront (decrypt_refusal e))
+        (λ e. ((asked ≡ identities) × IsNoFront front (decrypt_refusal e)) ⊎ TellsNothing (decrypt_refusal e))
     pub honest : IsHonest answer
 
 -- By the identities that something stands for, or that is refused.

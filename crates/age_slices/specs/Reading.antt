@@ -26,7 +26,8 @@ module _ (seal_of : Seal) (key : List ℕ) (number : ℕ) (sealed : List ℕ) wh
   pub record ReadsPiece (answer : Result (List ℕ) Error) : Type 0 where
     -- A success says that the chunk of this number is the seal of what was answered: as the last one where the payload ends with it, and elsewhere as
     -- one before it.
-    pub success : IfOk answer (λ plain. AreBytes plain × (chunk number sealed ≡ seal_of key (chunk_nonce number (nat_eq number (final_chunk (length sealed)))) plain))
+    pub success : IfOk answer (λ plain. AreBytes plain
+        × (chunk number sealed ≡ seal_of key (chunk_nonce number (nat_eq number (final_chunk (length sealed)))) plain))
     -- A payload gives the piece of its plaintext, or is refused for want of memory.
     pub honest : (plain : List ℕ) → AreBytes plain → sealed ≡ payload seal_of key plain → number ≤ last_piece (length plain)
         → MatchResult answer (λ given. given ≡ piece number plain) (λ e. e ≡ io.OutOfMemory)

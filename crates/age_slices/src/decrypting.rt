@@ -1,11 +1,11 @@
 //! Slices that are decrypted.
-ghost use Rattle.std.specs.Prelude.{◌≡◌, ℕ, List, vec_items, Result, MatchResult};
+ghost use Rattle.std.specs.Prelude.{ℕ, List, vec_items, Result, MatchResult};
 ghost use Rattle.std.specs.Result.{result_map_both};
 ghost use Rattle.std.specs.Str.Lines.{lines};
 ghost use Rattle.age.specs.Entries.{AreEntries};
 ghost use Rattle.age.specs.IdentityFile.{entries_of};
 ghost use Rattle.age.specs.Types.{FileError as file_error};
-ghost use Rattle.age_slices.specs.Decrypting.{AreIdentities, DecryptsBy, DecryptsBytes, RefusesIdentities, RefusesText};
+ghost use Rattle.age_slices.specs.Decrypting.{AreIdentities, DecryptsBytesBy, DecryptsBytes, RefusesIdentityText, RefusesIdentityReading};
 ghost use Rattle.age_slices.specs.Handing.{HandsOutAnswer};
 ghost use Rattle.age_slices.specs.Status;
 
@@ -22,7 +22,7 @@ use std::alloc::Global;
 
 // What is read of a text of identities.
 fn read_text<S>(alloc: Global, text: &[u8]) -> Result<IdentityFile<S, NoCallbacks>, Error>
-    ensures { MatchResult result (λ file. AreEntries (lines text.now) (entries_of file)) (λ e. RefusesText text.now e) }
+    ensures { MatchResult result (λ file. AreEntries (lines text.now) (entries_of file)) (λ e. RefusesIdentityReading text.now e) }
 {
     IdentityFile::from_buffer(alloc, Bytes::new(text))
 }
@@ -39,7 +39,7 @@ pub fn identities_of<S>(
     alloc: Global,
     text: &[u8],
 ) -> Result<Vec<x25519::Identity<S>>, DecryptError>
-    ensures { MatchResult result (λ keys. AreIdentities text.now keys.items) (λ e. RefusesIdentities text.now e) }
+    ensures { MatchResult result (λ keys. AreIdentities text.now keys.items) (λ e. RefusesIdentityText text.now e) }
 {
     match read_text::<S>(alloc, text) {
         Ok(found) => found.into_identities(alloc),
@@ -56,6 +56,7 @@ pub fn plaintext_by<'a, S: Suite, I: Identity>(
     ensures { DecryptsBytes I.unwraps ⟦<S as Suite>⟧ ⟦<Bytes<'a> as Read>⟧ ⟦<Vec<u8> as Write>⟧ vec_items identities.old identities.new file.now
         (result_map_both vec_items (λ e. e) result) }
 {
+    // Facts for the proof alone.
     known_bytes(file);
     carried_is_unique();
     one_plaintext::<S>();
@@ -82,8 +83,8 @@ pub fn decrypt_by<'a, S: Suite>(
     text: &[u8],
     file: &'a [u8],
 ) -> Result<Vec<u8>, FileError>
-    ensures { DecryptsBy ⟦<x25519::Identity<S> as Identity>⟧.unwraps ⟦<S as Suite>⟧ ⟦<Bytes<'a> as Read>⟧ ⟦<Vec<u8> as Write>⟧ vec_items
-        (RefusesIdentities text.now) (AreIdentities text.now) file.now (result_map_both vec_items (λ e. e) result) }
+    ensures { DecryptsBytesBy ⟦<x25519::Identity<S> as Identity>⟧.unwraps ⟦<S as Suite>⟧ ⟦<Bytes<'a> as Read>⟧ ⟦<Vec<u8> as Write>⟧ vec_items
+        (RefusesIdentityText text.now) (AreIdentities text.now) file.now (result_map_both vec_items (λ e. e) result) }
 {
     match identities_of::<S>(alloc, text) {
         Err(error) => Err(FileError::Decrypt(error)),
@@ -106,8 +107,8 @@ pub fn decrypt_by_out<'a, S: Suite>(
     written: &mut usize,
 ) -> u32
     ensures { (answer : Result (List ℕ) file_error)
-        × DecryptsBy ⟦<x25519::Identity<S> as Identity>⟧.unwraps ⟦<S as Suite>⟧ ⟦<Bytes<'a> as Read>⟧ ⟦<Vec<u8> as Write>⟧ vec_items
-        (RefusesIdentities text.now) (AreIdentities text.now) file.now answer
+        × DecryptsBytesBy ⟦<x25519::Identity<S> as Identity>⟧.unwraps ⟦<S as Suite>⟧ ⟦<Bytes<'a> as Read>⟧ ⟦<Vec<u8> as Write>⟧ vec_items
+        (RefusesIdentityText text.now) (AreIdentities text.now) file.now answer
         × HandsOutAnswer Status.of_file answer out.old out.new written.new result }
 {
     match decrypt_by::<S>(alloc, text, file) {

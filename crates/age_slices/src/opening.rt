@@ -3,10 +3,9 @@ ghost use Rattle.std.specs.Prelude.{◌≡◌, ◌+◌, length, MatchOption, Mat
 ghost use Rattle.age.specs.DecryptErrors.{decrypt_refusal};
 ghost use Rattle.age.specs.Identities.{AnswersFirst};
 ghost use Rattle.age.specs.Header.{header_text};
-ghost use Rattle.age.specs.HeaderMac.{header_mac};
 ghost use Rattle.age.specs.Unwrapping.{unwrap_answer};
 ghost use Rattle.age.specs.Types.{DecryptError as decrypt_error};
-ghost use Rattle.age_slices.specs.Decrypting.{AreIdentities, RefusesIdentities};
+ghost use Rattle.age_slices.specs.Decrypting.{AreIdentities, RefusesIdentityText};
 ghost use Rattle.age_slices.specs.Opening.{BeginsWith, HandsOutPayload, IsNoFront, IsTooShort, OpensHeader, OpensHeaderBy};
 ghost use Rattle.age_slices.specs.Status;
 ghost use Rattle.age_slices.specs.declared.opening.PayloadAt.{PayloadAt as payload_at};
@@ -60,6 +59,7 @@ fn front_of(alloc: Global, front: &[u8]) -> Result<Option<Front>, DecryptError>
     if !keeps_scrypt_rule(header.stanzas()) {
         return Err(DecryptError::InvalidHeader);
     }
+    // For the proof alone: these are bytes, each below 256.
     known_array(&nonce);
     match reader.seek(SeekFrom::Current(0)) {
         Ok(end) => Ok(Some(Front {
@@ -106,6 +106,7 @@ pub fn open_header_by<I: Identity>(
 ) -> Result<Option<PayloadAt>, DecryptError>
     ensures { OpensHeader I.unwraps identities.old identities.new front.now result }
 {
+    // A fact for the proof alone.
     verdict_is_unique();
     canonical_text_reads_back();
     let found = match front_of(alloc, front) {
@@ -138,7 +139,7 @@ pub fn open_header<S: Suite>(
     text: &[u8],
     front: &[u8],
 ) -> Result<Option<PayloadAt>, DecryptError>
-    ensures { OpensHeaderBy ⟦<x25519::Identity<S> as Identity>⟧.unwraps (RefusesIdentities text.now) (AreIdentities text.now) front.now result }
+    ensures { OpensHeaderBy ⟦<x25519::Identity<S> as Identity>⟧.unwraps (RefusesIdentityText text.now) (AreIdentities text.now) front.now result }
 {
     match identities_of::<S>(alloc, text) {
         Err(error) => Err(error),
@@ -186,7 +187,7 @@ pub fn open_header_out<S: Suite>(
     place: &mut usize,
 ) -> u32
     ensures { (answer : Result (Option payload_at) decrypt_error)
-        × OpensHeaderBy ⟦<x25519::Identity<S> as Identity>⟧.unwraps (RefusesIdentities text.now) (AreIdentities text.now) front.now answer
+        × OpensHeaderBy ⟦<x25519::Identity<S> as Identity>⟧.unwraps (RefusesIdentityText text.now) (AreIdentities text.now) front.now answer
         × HandsOutPayload Status.of_decrypt answer out.old out.new written.new place.new result }
 {
     hand_out_payload(open_header::<S>(alloc, text, front), out, written, place)

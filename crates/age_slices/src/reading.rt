@@ -69,7 +69,8 @@ fn next_piece<S: Suite>(
     ensures { MatchResult result
         (λ it. ((it.1 ≡ true) × (payload_delivers S.opened key.now number (whole rest.now) ≡ whole (vec_items it.0)))
         ⊎ ((it.1 ≡ false) × (65552 ≤ length rest.now) × (number < 2 ^ 44)
-        × (payload_delivers S.opened key.now number (whole rest.now) ≡ prepend (vec_items it.0) (payload_delivers S.opened key.now (number + 1) (whole (drop 65552 rest.now))))))
+        × (payload_delivers S.opened key.now number (whole rest.now)
+        ≡ prepend (vec_items it.0) (payload_delivers S.opened key.now (number + 1) (whole (drop 65552 rest.now))))))
         (λ e. (e ≡ OutOfMemory) ⊎ ((payload_delivers S.opened key.now number (whole rest.now)).ends_well ≡ false)) }
 {
     if rest.is_empty() {
@@ -78,6 +79,7 @@ fn next_piece<S: Suite>(
     if number >= MOST_CHUNKS {
         return Err(Error::TooLong);
     }
+    // For the proof alone: these are bytes, each below 256.
     known_array(key);
     known_bytes(rest);
     known_array(&nonce_of(number, false));
@@ -115,8 +117,8 @@ fn plain_of<S: Suite>(alloc: Global, key: &[u8; 32], sealed: &[u8]) -> Result<Ve
     }
 }
 
-/// The plaintext of a bare file, by the first of these that answers, read as a caller in another language reads it: the header first, then the chunks in
-/// order, until one opens as the last, and nothing may be left then.
+/// The plaintext of a bare file, by the first of these that answers, read as a caller in another language reads
+/// it: the header first, then the chunks in order, until one opens as the last, and nothing may be left then.
 ///
 /// # Errors
 ///
@@ -130,6 +132,7 @@ pub fn read_by_chunks<S: Suite, I: Identity>(
 ) -> Result<Vec<u8>, FileError>
     ensures { ReadsByChunks I.unwraps S.seal_of identities.old identities.new file.now (result_map_both vec_items (λ e. e) result) }
 {
+    // A fact for the proof alone.
     delivery_laws::<S>();
     let at = match open_header_by::<I>(alloc, identities, file) {
         Ok(None) => return Err(FileError::Decrypt(DecryptError::Io(Error::UnexpectedEof))),
@@ -137,6 +140,7 @@ pub fn read_by_chunks<S: Suite, I: Identity>(
         Err(error) => return Err(FileError::Decrypt(error)),
     };
     let sealed = behind(file, at.place);
+    // For the proof alone: these are bytes, each below 256.
     known_array(&at.key);
     known_bytes(sealed);
     match plain_of::<S>(alloc, &at.key, sealed) {
@@ -158,8 +162,8 @@ fn chunk_at(sealed: &[u8], number: usize) -> &[u8]
     }
 }
 
-/// A piece of the plaintext of a payload, by its number and under the key of the payload, read as a caller in another language reads it: that chunk alone,
-/// by its place, as the last one where the payload ends with it and as one before it elsewhere.
+/// A piece of the plaintext of a payload, by its number and under the key of the payload, read as a caller in another language
+/// reads it: that chunk alone, by its place, as the last one where the payload ends with it and as one before it elsewhere.
 ///
 /// # Errors
 ///
@@ -173,6 +177,7 @@ pub fn read_piece<S: Suite>(
 ) -> Result<Vec<u8>, Error>
     ensures { ReadsPiece S.seal_of key.now number sealed.now (result_map_both vec_items (λ e. e) result) }
 {
+    // For the proof alone: these are bytes, each below 256.
     known_array(key);
     known_bytes(sealed);
     let last = (sealed.len().saturating_sub(1) / CHUNK) as u64;

@@ -20,10 +20,11 @@ use Rattle.age_stream.proofs.Last.{text-held}
 use Rattle.age_v1.proofs.TextLengths.{some-within}
 
 -- the place went on in the chunk, which is used now
-pub moved-in : (number at new_at : ℕ) (old new : Cache) → new.number ≡ old.number → new.chunk ≡ old.chunk → new.last ≡ old.last → new.judged ≡ old.judged → at ≤ new_at →
-    new_at ≤ length old.chunk.items → IsAtChunk number at old → IsAtChunk number new_at new
+pub moved-in : (number at new_at : ℕ) (old new : Cache) → new.number ≡ old.number → new.piece ≡ old.piece → new.last ≡ old.last
+    → new.judged ≡ old.judged → at ≤ new_at →
+    new_at ≤ length old.piece.items → IsAtChunk number at old → IsAtChunk number new_at new
 moved-in number at new_at old new same_number same_chunk same_last same_judged onward within is =
-    let long : length new.chunk.items ≡ length old.chunk.items = ap (λ v. length v.items) same_chunk in
+    let long : length new.piece.items ≡ length old.piece.items = ap (λ v. length v.items) same_chunk in
     record {
       in_chunk = omega (arith, within, long);
       small = omega (arith, is.small, long);
@@ -47,7 +48,8 @@ some-same a b is = cc
 pub used-there : (cache : Cache) (b : ℕ) → last_used cache ≡ Some b → HasOne cache b
 used-there cache b is = by cache.used cache.judged cache.other cache.number b is refl refl refl
   where
-    by : (used judged : Bool) (other : Option Opened) (number b : ℕ) → cond used (cond judged (Some number) None) (option_map (λ it. it.number) other) ≡ Some b →
+    by : (used judged : Bool) (other : Option Opened) (number b : ℕ)
+        → cond used (cond judged (Some number) None) (option_map (λ it. it.number) other) ≡ Some b →
         cache.judged ≡ judged → cache.number ≡ number → cache.other ≡ other → HasOne cache b
     by true true other number b is judged same there = inl (judged, same ∙ some-same number b is)
     by true false other number b is judged same there = cc
@@ -55,14 +57,15 @@ used-there cache b is = by cache.used cache.judged cache.other cache.number b is
     by false judged (Some it) number b is first same there = inr (rw there (eq-eqb it.number b (some-same it.number b is)))
 
 -- A reader that holds a chunk, and isn't after the last one, comes to the chunk at its place next where it has that opened.
-pub comes : (held : Bool) (number at : ℕ) (cache : Cache) → held ≡ true → at ≤ length cache.chunk.items → length cache.chunk.items ≤ 65536 →
-    (cache.last ≡ false → length cache.chunk.items ≡ 65536) → cache.number ≡ number → ((held ≡ true) × (cache.last ≡ true) × (at ≡ length cache.chunk.items) → ⊥) →
-    HasOne cache ((65536 * number + at) / 65536) → ((held ≡ true) × (at < length cache.chunk.items)) ⊎
-    ((held ≡ true → (cache.last ≡ false) × (at ≡ length cache.chunk.items)) × (has_number (cond held (number + 1) number) cache.other ≡ true))
-comes held number at cache is inside small full first apart has = elim (cases_lt at (length cache.chunk.items)) [
+pub comes : (held : Bool) (number at : ℕ) (cache : Cache) → held ≡ true → at ≤ length cache.piece.items → length cache.piece.items ≤ 65536 →
+    (cache.last ≡ false → length cache.piece.items ≡ 65536) → cache.number ≡ number
+    → ((held ≡ true) × (cache.last ≡ true) × (at ≡ length cache.piece.items) → ⊥) →
+    HasOne cache ((65536 * number + at) / 65536) → ((held ≡ true) × (at < length cache.piece.items)) ⊎
+    ((held ≡ true → (cache.last ≡ false) × (at ≡ length cache.piece.items)) × (has_number (cond held (number + 1) number) cache.other ≡ true))
+comes held number at cache is inside small full first apart has = elim (cases_lt at (length cache.piece.items)) [
   | inl less ↦ inl (is, less)
   | inr more ↦
-      let given : at ≡ length cache.chunk.items = omega (arith, inside, more) in
+      let given : at ≡ length cache.piece.items = omega (arith, inside, more) in
       let middle = false_from_ne_true cache.last (λ last. apart (is, last, given)) in
       let next : (65536 * number + at) / 65536 ≡ number + 1 = omega (arith, given, full middle) in
       inr (
@@ -75,8 +78,10 @@ comes held number at cache is inside small full first apart has = elim (cases_lt
 ]
 
 -- the verdict on the text of a chunk that was read
-pub held-read : (opened : List ℕ → List ℕ → List ℕ → Option (List ℕ)) (key : List ℕ) (payload : Stretch) (number : ℕ) (text plain : List ℕ) (last : Bool) →
-    IsText payload number text → (length text < 65552 → last ≡ true) → chunk_of opened key number text ≡ Ok (plain, last) → IsHeld opened key payload number last 0 plain
+pub held-read : (opened : List ℕ → List ℕ → List ℕ → Option (List ℕ)) (key : List ℕ) (payload : Stretch) (number : ℕ) (text plain : List ℕ)
+    (last : Bool) →
+    IsText payload number text → (length text < 65552 → last ≡ true) → chunk_of opened key number text ≡ Ok (plain, last)
+    → IsHeld opened key payload number last 0 plain
 held-read opened key payload number text plain last read short ok =
     let a = accepted opened key number text plain last ok in
     record {
@@ -87,33 +92,39 @@ held-read opened key payload number text plain last read short ok =
     }
 
 -- what was read is the text of the chunk
-pub is-text : (content rest after : Stretch) (place taken number : ℕ) (text : List ℕ) → StandsIn content place rest → taken ≤ place → taken ≡ 65552 * number →
+pub is-text : (content rest after : Stretch) (place taken number : ℕ) (text : List ℕ) → StandsIn content place rest → taken ≤ place
+    → taken ≡ 65552 * number →
     TookText rest after text → IsText (payload_at place taken content) number text
 is-text content rest after place taken number text stands fits stood took = record {
   is = text-read content rest after place taken number text stands fits stood took;
-  ended = λ less. sym (ap (λ s. s.ends_well) (stood-taken content rest after place taken text stands fits took)) ∙ sym took.came.end ∙ (took.ended less).ends_well;
+  ended = λ less. sym (ap (λ s. s.ends_well) (stood-taken content rest after place taken text stands fits took)) ∙ sym took.came.end
+      ∙ (took.ended less).ends_well;
 }
 
 -- what is known of a text that was opened
-pub record IsOpenedText (opened : List ℕ → List ℕ → List ℕ → Option (List ℕ)) (key : List ℕ) (number : ℕ) (text plain : List ℕ) (last : Bool) : Type 0 where
+pub record IsOpenedText (opened : List ℕ → List ℕ → List ℕ → Option (List ℕ)) (key : List ℕ) (number : ℕ) (text plain : List ℕ)
+    (last : Bool) : Type 0 where
   pub ok : chunk_of opened key number text ≡ Ok (plain, last)
   pub short : length text < 65552 → last ≡ true
   pub longer : length plain + 16 ≡ length text
 
 -- The first chunk is that of the text that an inner reader gave.
-pub brought : (opened : List ℕ → List ℕ → List ℕ → Option (List ℕ)) (key : List ℕ) (law : Shorter opened key) (content rest after : Stretch) (place taken number : ℕ)
-    (text : List ℕ) (cache : Cache) → AreBytes content.bytes → StandsIn content place rest → taken ≤ place → taken ≡ 65552 * number → TookText rest after text →
+pub brought : (opened : List ℕ → List ℕ → List ℕ → Option (List ℕ)) (key : List ℕ) (law : Shorter opened key) (content rest after : Stretch)
+    (place taken number : ℕ)
+    (text : List ℕ) (cache : Cache) → AreBytes content.bytes → StandsIn content place rest → taken ≤ place → taken ≡ 65552 * number
+    → TookText rest after text →
     (cache.judged ≡ true) × (cache.number ≡ number) × (cache.used ≡ true) →
     (IsText (payload_at place taken content) number text → IsKept opened key (payload_at place taken content) cache) →
-    IsOpenedText opened key number text cache.chunk.items cache.last
+    IsOpenedText opened key number text cache.piece.items cache.last
 brought opened key law content rest after place taken number text cache bytes stands fits stood took first kept =
     let payload = payload_at place taken content in
     let read = is-text content rest after place taken number text stands fits stood took in
-    let held = subst (λ n. IsHeld opened key payload n cache.last 0 cache.chunk.items) first.1 ((kept read).first first.0) in
+    let held = subst (λ n. IsHeld opened key payload n cache.last 0 cache.piece.items) first.1 ((kept read).first first.0) in
     record {
       ok = ap (chunk_of opened key number) (sym read.is) ∙ held.judged (λ e. absurd (omega (arith, e.full)));
       short = λ less. (held.whole (subst (λ (xs : List ℕ). length xs < 65552) (sym read.is) less)).1;
-      longer = text-held opened key law payload number 0 cache.last cache.chunk.items (All-drop (λ x. x < 2 ^ 8) (place - taken) content.bytes bytes) held ∙ ap length read.is;
+      longer = text-held opened key law payload number 0 cache.last cache.piece.items
+          (All-drop (λ x. x < 2 ^ 8) (place - taken) content.bytes bytes) held ∙ ap length read.is;
     }
 
 module _ (opened : List ℕ → List ℕ → List ℕ → Option (List ℕ)) (key : List ℕ) (cache : Cache) where

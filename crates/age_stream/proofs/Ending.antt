@@ -68,7 +68,8 @@ in_length-leads (Some len) to place n is = sought-leads to place len n (ok-by (n
 
 -- ---- the end
 
-pub is-end : (to : SeekFrom) (place size goal len : ℕ) → plain_len size ≡ Some len → below_start to place ≡ false → in_length (plain_len size) to place ≡ Ok goal → goal ≡ len → IsToEnd size to place
+pub is-end : (to : SeekFrom) (place size goal len : ℕ) → plain_len size ≡ Some len → below_start to place ≡ false
+    → in_length (plain_len size) to place ≡ Ok goal → goal ≡ len → IsToEnd size to place
 is-end to place size goal len plain above ok same = record {
   len = len;
   plain = plain;
@@ -83,24 +84,28 @@ abbrev some_of : Option ℕ → ℕ
 some_of (Some n) = n
 some_of None = 0
 
-pub not-end : (to : SeekFrom) (place size goal len : ℕ) → plain_len size ≡ Some len → below_start to place ≡ false → in_length (plain_len size) to place ≡ Ok goal → (goal ≡ len → ⊥) → IsToEnd size to place → ⊥
+pub not-end : (to : SeekFrom) (place size goal len : ℕ) → plain_len size ≡ Some len → below_start to place ≡ false
+    → in_length (plain_len size) to place ≡ Ok goal → (goal ≡ len → ⊥) → IsToEnd size to place → ⊥
 not-end to place size goal len plain above ok apart end =
     let there : in_length (plain_len size) to place ≡ Ok end.len = rw above at end.target in
     apart (ap number_of (sym ok ∙ there) ∙ ap some_of (sym end.plain ∙ plain))
 
 -- ---- a payload that ends well
 
-module _ (opened : List ℕ → List ℕ → List ℕ → Option (List ℕ)) (key : List ℕ) (law : Shorter opened key) (payload : Stretch) (bytes : AreBytes payload.bytes)
+module _ (opened : List ℕ → List ℕ → List ℕ → Option (List ℕ)) (key : List ℕ) (law : Shorter opened key) (payload : Stretch)
+    (bytes : AreBytes payload.bytes)
     (well : (payload_delivers opened key 0 payload).ends_well ≡ true) where
   plain-well : plain_len (length payload.bytes) ≡ Some (length (payload_delivers opened key 0 payload).bytes)
   plain-well =
       let h = well-length opened key law payload bytes well in
       let n = final_chunk (length payload.bytes) in
       let less : length payload.bytes - 16 * (n + 1) ≡ length (payload_delivers opened key 0 payload).bytes = omega (arith, h.less) in
-      (plain_len-last (length payload.bytes) n (record { fits = omega arith; enough = h.enough; more = λ some. h.more (omega (arith, some)) })).1 ∙ ap (λ k. Some k) less
+      (plain_len-last (length payload.bytes) n (record { fits = omega arith; enough = h.enough; more = λ some. h.more (omega (arith, some)) })).1
+      ∙ ap (λ k. Some k) less
 
   last-single : let number = final_chunk (length payload.bytes) in
-      (plain : List ℕ) × (opened key (chunk_nonce number true) (text_at number payload) ≡ Some plain) × (length plain ≡ 0 → number ≡ 0) × (0 < length plain → number < 2 ^ 44)
+      (plain : List ℕ) × (opened key (chunk_nonce number true) (text_at number payload) ≡ Some plain) × (length plain ≡ 0 → number ≡ 0)
+      × (0 < length plain → number < 2 ^ 44)
   last-single =
       let number = final_chunk (length payload.bytes) in
       let h = well-length opened key law payload bytes well in
@@ -112,7 +117,8 @@ module _ (opened : List ℕ → List ℕ → List ℕ → Option (List ℕ)) (ke
       (one.0, a.opens, a.first, a.limit)
 
   -- the last chunk of it opens as the last
-  pub last-opens : opened key (chunk_nonce (final_chunk (length payload.bytes)) true) (text_at (final_chunk (length payload.bytes)) payload) ≡ None → ⊥
+  pub last-opens : opened key (chunk_nonce (final_chunk (length payload.bytes)) true) (text_at (final_chunk (length payload.bytes)) payload)
+      ≡ None → ⊥
   last-opens none = apart (sym none ∙ last-single.1)
     where
       apart : {p : List ℕ} → ◌≡◌ {A = Option (List ℕ)} None (Some p) → ⊥
@@ -124,7 +130,8 @@ module _ (opened : List ℕ → List ℕ → List ℕ → Option (List ℕ)) (ke
       let h = well-length opened key law payload bytes well in
       let one = last-single in
       let text = text_at number payload in
-      let are : AreBytes text = All-take (λ x. x < 2 ^ 8) 65552 (drop (65552 * number) payload.bytes) (All-drop (λ x. x < 2 ^ 8) (65552 * number) payload.bytes bytes) in
+      let are : AreBytes text = All-take (λ x. x < 2 ^ 8) 65552 (drop (65552 * number) payload.bytes)
+      (All-drop (λ x. x < 2 ^ 8) (65552 * number) payload.bytes bytes) in
       let short = law number true text one.0 are one.1 in
       let long = length-text 65552 (65552 * number) payload.bytes in
       let len = length payload.bytes in
@@ -133,9 +140,12 @@ module _ (opened : List ℕ → List ℕ → List ℕ → Option (List ℕ)) (ke
       (plain-most number (length text) (length one.0) len short long) one.2 one.3
 
   -- what is sought in the payload is sought in the plaintext
-  pub ok-well : (to : SeekFrom) (place n : ℕ) → in_length (plain_len (length payload.bytes)) to place ≡ Ok n → sought to place (length (payload_delivers opened key 0 payload).bytes) ≡ Ok n
+  pub ok-well : (to : SeekFrom) (place n : ℕ) → in_length (plain_len (length payload.bytes)) to place ≡ Ok n
+      → sought to place (length (payload_delivers opened key 0 payload).bytes) ≡ Ok n
   ok-well to place n is = ok-by (nat_le (length (payload_delivers opened key 0 payload).bytes) (2 ^ 60)) _ n (rw plain-well at is)
 
-  pub err-well : (to : SeekFrom) (place : ℕ) (e : Error) → in_length (plain_len (length payload.bytes)) to place ≡ Err e → sought to place (length (payload_delivers opened key 0 payload).bytes) ≡ Err e
+  pub err-well : (to : SeekFrom) (place : ℕ) (e : Error) → in_length (plain_len (length payload.bytes)) to place ≡ Err e
+      → sought to place (length (payload_delivers opened key 0 payload).bytes) ≡ Err e
   err-well to place e is =
-      err-by (nat_le (length (payload_delivers opened key 0 payload).bytes) (2 ^ 60)) _ e (le-leb (length (payload_delivers opened key 0 payload).bytes) (2 ^ 60) limit-well) (rw plain-well at is)
+      err-by (nat_le (length (payload_delivers opened key 0 payload).bytes) (2 ^ 60)) _ e
+      (le-leb (length (payload_delivers opened key 0 payload).bytes) (2 ^ 60) limit-well) (rw plain-well at is)

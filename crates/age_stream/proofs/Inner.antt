@@ -35,7 +35,8 @@ refused-by false m e holds is = cc
 pub refused-start : (k place len : ℕ) (e : Error) → k ≤ len → sought (Start k) place len ≡ Err e → ⊥
 refused-start k place len e within is = refused-by (nat_le k len) k e (le-leb k len within) is
 
-pub same-payload : (content new_content : Stretch) (place new_place taken new_taken : ℕ) → new_content ≡ content → new_place - new_taken ≡ place - taken →
+pub same-payload : (content new_content : Stretch) (place new_place taken new_taken : ℕ) → new_content ≡ content
+    → new_place - new_taken ≡ place - taken →
     payload_at new_place new_taken new_content ≡ payload_at place taken content
 same-payload content new_content place new_place taken new_taken same start = rw (same, start) refl
 
@@ -43,14 +44,17 @@ same-payload content new_content place new_place taken new_taken same start = rw
 pub payload-place : (content : Stretch) (start place taken : ℕ) → start ≡ place - taken → (at : ℕ) →
     from_place (start + at) content ≡ from_place at (payload_at place taken content)
 payload-place content start place taken is at =
-    rw is (stretch-ext (from_place (place - taken + at) content) (from_place at (payload_at place taken content)) (sym (drop-drop at (place - taken) content.bytes)) refl)
+    rw is (stretch-ext (from_place (place - taken + at) content) (from_place at (payload_at place taken content))
+    (sym (drop-drop at (place - taken) content.bytes)) refl)
 
 -- the inner reader was put after the chunk that is held
-pub past-kept : (payload rest : Stretch) (number taken past size : ℕ) (last : Bool) → size ≡ length payload.bytes → past ≡ min (65552 * number + 65552) size →
+pub past-kept : (payload rest : Stretch) (number taken past size : ℕ) (last : Bool) → size ≡ length payload.bytes
+    → past ≡ min (65552 * number + 65552) size →
     taken ≡ past → rest ≡ from_place past payload → (last ≡ false → 65552 * number + 65552 ≤ size) → IsPast payload number last taken rest
 past-kept payload rest number taken past size last whole least stood is full =
     let same : drop past payload.bytes ≡ drop (65552 * number + 65552) payload.bytes = elim (cases_lt size (65552 * number + 65552)) [
-      | inl short ↦ drop_all past payload.bytes (omega (arith, least, whole, short)) ∙ sym (drop_all (65552 * number + 65552) payload.bytes (omega (arith, whole, short)))
+      | inl short ↦ drop_all past payload.bytes (omega (arith, least, whole, short))
+          ∙ sym (drop_all (65552 * number + 65552) payload.bytes (omega (arith, whole, short)))
       | inr long ↦ let at : past ≡ 65552 * number + 65552 = omega (arith, least, long) in ap (λ n. drop n payload.bytes) at
     ] in
     record {
@@ -60,7 +64,8 @@ past-kept payload rest number taken past size last whole least stood is full =
     }
 
 -- the inner reader was put at the end, after a chunk that is held as the last
-pub past-end : (payload rest : Stretch) (number taken : ℕ) (last : Bool) → last ≡ true → taken ≡ length payload.bytes → length payload.bytes ≤ 65552 * number + 65552 →
+pub past-end : (payload rest : Stretch) (number taken : ℕ) (last : Bool) → last ≡ true → taken ≡ length payload.bytes
+    → length payload.bytes ≤ 65552 * number + 65552 →
     rest ≡ from_place taken payload → IsPast payload number last taken rest
 past-end payload rest number taken last is whole fits stood =
     let over : drop (65552 * number + 65552) payload.bytes ≡ [] = drop_all (65552 * number + 65552) payload.bytes fits in

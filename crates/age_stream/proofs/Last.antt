@@ -23,7 +23,8 @@ pub record IsLastText (payload after : Stretch) (number : ℕ) (text : List ℕ)
   pub same_end : after.ends_well ≡ payload.ends_well
   pub ended : length text < 65552 → payload.ends_well ≡ true
 
-pub last-text : (payload rest after : Stretch) (number : ℕ) (text : List ℕ) → rest ≡ from_place (65552 * number) payload → IsLastChunk (length payload.bytes) number →
+pub last-text : (payload rest after : Stretch) (number : ℕ) (text : List ℕ) → rest ≡ from_place (65552 * number) payload
+    → IsLastChunk (length payload.bytes) number →
     TookText rest after text → IsLastText payload after number text
 last-text payload rest after number text stood last took =
     let came = took.came in
@@ -44,7 +45,8 @@ last-text payload rest after number text stood last took =
       ended = λ less. sym (came.end ∙ well) ∙ (took.ended less).ends_well;
     }
 
-pub last-past : (payload after : Stretch) (number taken : ℕ) (text : List ℕ) → IsLastText payload after number text → IsLastChunk (length payload.bytes) number →
+pub last-past : (payload after : Stretch) (number taken : ℕ) (text : List ℕ) → IsLastText payload after number text
+    → IsLastChunk (length payload.bytes) number →
     taken ≡ 65552 * number + length text → IsPast payload number true taken after
 last-past payload after number taken text t last took =
     let over : drop (65552 * number + 65552) payload.bytes ≡ [] = drop_all (65552 * number + 65552) payload.bytes last.fits in
@@ -56,12 +58,15 @@ last-past payload after number taken text t last took =
 
 module _ (opened : List ℕ → List ℕ → List ℕ → Option (List ℕ)) (key : List ℕ) where
   -- a full chunk isn't judged as a middle one, a short one is only ever the last
-  pub last-held : (payload after : Stretch) (number at : ℕ) (text plain : List ℕ) → IsLastText payload after number text → IsLastChunk (length payload.bytes) number →
-      number < 2 ^ 44 → length plain + 16 ≡ length text → at ≡ length plain → opened key (chunk_nonce number true) text ≡ Some plain → IsHeld opened key payload number true at plain
+  pub last-held : (payload after : Stretch) (number at : ℕ) (text plain : List ℕ) → IsLastText payload after number text
+      → IsLastChunk (length payload.bytes) number →
+      number < 2 ^ 44 → length plain + 16 ≡ length text → at ≡ length plain → opened key (chunk_nonce number true) text ≡ Some plain
+      → IsHeld opened key payload number true at plain
   last-held payload after number at text plain t last few longer given is = record {
     opens = ap (opened key (chunk_nonce number true)) t.is ∙ is;
     judged = λ apart. elim (cases_lt (length text) 65552) [
-      | inl less ↦ ap (chunk_of opened key number) t.is ∙ judged-short opened key number text plain less (omega (arith, longer)) (λ some. omega (arith, last.more some, t.long, longer)) few is
+      | inl less ↦ ap (chunk_of opened key number) t.is
+          ∙ judged-short opened key number text plain less (omega (arith, longer)) (λ some. omega (arith, last.more some, t.long, longer)) few is
       | inr full ↦ absurd (apart (record { is_last = refl; none = last.fits; full = omega (arith, full, t.most, longer, given) }))
     ];
     whole = λ less. (t.ended (subst (λ (xs : List ℕ). length xs < 65552) t.is less), refl);
@@ -74,29 +79,36 @@ module _ (opened : List ℕ → List ℕ → List ℕ → Option (List ℕ)) (ke
 
   module _ (law : Shorter opened key) where
     -- how long the text of the chunk that is held is
-    pub text-held : (payload : Stretch) (number at : ℕ) (last : Bool) (chunk : List ℕ) → AreBytes payload.bytes → IsHeld opened key payload number last at chunk →
+    pub text-held : (payload : Stretch) (number at : ℕ) (last : Bool) (chunk : List ℕ) → AreBytes payload.bytes
+        → IsHeld opened key payload number last at chunk →
         length chunk + 16 ≡ length (text_at number payload)
     text-held payload number at last chunk bytes held = law number last (text_at number payload) chunk
-        (All-take (λ x. x < 2 ^ 8) 65552 (drop (65552 * number) payload.bytes) (All-drop (λ x. x < 2 ^ 8) (65552 * number) payload.bytes bytes)) held.opens
+        (All-take (λ x. x < 2 ^ 8) 65552 (drop (65552 * number) payload.bytes) (All-drop (λ x. x < 2 ^ 8) (65552 * number) payload.bytes bytes))
+        held.opens
 
     -- the length of the last chunk of a payload
-    pub held-length : (payload : Stretch) (number at : ℕ) (last : Bool) (chunk : List ℕ) → AreBytes payload.bytes → IsHeld opened key payload number last at chunk →
+    pub held-length : (payload : Stretch) (number at : ℕ) (last : Bool) (chunk : List ℕ) → AreBytes payload.bytes
+        → IsHeld opened key payload number last at chunk →
         length payload.bytes ≤ 65552 * number + 65552 → length chunk + 16 + 65552 * number ≡ length payload.bytes
     held-length payload number at last chunk bytes held fits =
         plain-whole number (length (text_at number payload)) (length chunk) (length payload.bytes) (text-held payload number at last chunk bytes held)
         (length-text 65552 (65552 * number) payload.bytes) fits held.some
 
     -- and the end of its plaintext
-    pub last-place : (payload : Stretch) (number at size len : ℕ) (last : Bool) (chunk : List ℕ) → AreBytes payload.bytes → IsHeld opened key payload number last at chunk →
-        size ≡ length payload.bytes → number ≡ final_chunk size → IsLastChunk size (final_chunk size) → len + 16 * (final_chunk size + 1) ≡ size → 65536 * number + length chunk ≡ len
+    pub last-place : (payload : Stretch) (number at size len : ℕ) (last : Bool) (chunk : List ℕ) → AreBytes payload.bytes
+        → IsHeld opened key payload number last at chunk →
+        size ≡ length payload.bytes → number ≡ final_chunk size → IsLastChunk size (final_chunk size) → len + 16 * (final_chunk size + 1) ≡ size
+        → 65536 * number + length chunk ≡ len
     last-place payload number at size len last chunk bytes held same is last_one whole =
         omega (arith, held-length payload number at last chunk bytes held (omega (arith, is, same, last_one.fits)), is, same, whole)
 
     -- a place in the chunk that is held is in the payload
-    pub inside-held : (payload : Stretch) (number at new_at : ℕ) (last : Bool) (chunk : List ℕ) → AreBytes payload.bytes → IsHeld opened key payload number last at chunk →
+    pub inside-held : (payload : Stretch) (number at new_at : ℕ) (last : Bool) (chunk : List ℕ) → AreBytes payload.bytes
+        → IsHeld opened key payload number last at chunk →
         new_at ≤ length chunk → IsInside (length payload.bytes) number new_at
     inside-held payload number at new_at last chunk bytes held within = record {
       front = omega (arith, held.some);
-      inside = λ some. plain-inside number (length (text_at number payload)) (length chunk) (length payload.bytes) (text-held payload number at last chunk bytes held)
+      inside = λ some. plain-inside number (length (text_at number payload)) (length chunk) (length payload.bytes)
+          (text-held payload number at last chunk bytes held)
           (length-text 65552 (65552 * number) payload.bytes) held.some new_at within;
     }

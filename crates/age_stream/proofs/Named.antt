@@ -25,7 +25,8 @@ pub inner-named : {R : Type 0} (read : Ghosts R) (inner : R) (e : Error) → Own
 inner-named read inner e h = elim h [ inl none ↦ absurd none | inr own ↦ inr own ]
 
 -- a seek of the inner reader's was refused, and told so
-pub sought-named : {R : Type 0} (read : Ghosts R) (seek_refuses : Error → Type 0) {to : SeekFrom} (before new : R) (error e : Error) → IsLost error e →
+pub sought-named : {R : Type 0} (read : Ghosts R) (seek_refuses : Error → Type 0) {to : SeekFrom} (before new : R) (error e : Error)
+    → IsLost error e →
     Seeks read.tells read.steady read.content read.place read.rest read.faults (TriedAgain read.refuses) seek_refuses before new to (Err error) →
     RefusedOnTheWay read seek_refuses new e
 sought-named read seek_refuses {to} before new error e lost seeks =

@@ -14,10 +14,10 @@ use Rattle.age_stream.specs.Cache.{last_used, HasOne}
 use Rattle.age_stream.specs.Reader.{place_of, plain_rest_of, IsHolding, IsAfterLast}
 use Rattle.age_stream.specs.Reading.{behind, rest_of}
 use Rattle.age_stream.specs.PrivateSteps.{FullInOne, OpensFew, ReadsChunks}
-use Rattle.age_stream.proofs.Cached.{used-there}
 
 -- a reader that has a byte of a chunk to give isn't at an end
-some-left : (opened : List ℕ → List ℕ → List ℕ → Option (List ℕ)) (key : List ℕ) (failed held : Bool) (at : ℕ) (chunk : List ℕ) (last : Bool) (number : ℕ) (rest : Stretch) →
+some-left : (opened : List ℕ → List ℕ → List ℕ → Option (List ℕ)) (key : List ℕ) (failed held : Bool) (at : ℕ) (chunk : List ℕ) (last : Bool)
+    (number : ℕ) (rest : Stretch) →
     failed ≡ false → held ≡ true → at < length chunk → IsCleanEnd (rest_of opened key failed held at chunk last number rest) → ⊥
 unfolding rest_of
 some-left opened key true held at chunk last number rest good is within clean = true≢false good
@@ -31,7 +31,8 @@ either true = inl refl
 either false = inr refl
 
 -- bytes came, since the place is before the end
-pub in-chunk-some : (size : ℕ) (to : SeekFrom) (place room chunk filled new : ℕ) → (inside : IsInChunk size to place room chunk) → new ≡ inside.start + filled →
+pub in-chunk-some : (size : ℕ) (to : SeekFrom) (place room chunk filled new : ℕ) → (inside : IsInChunk size to place room chunk)
+    → new ≡ inside.start + filled →
     (filled < room → plain_len size ≡ Some new) → 0 < filled
 in-chunk-some size to place room chunk filled new inside there ended = elim (cases_lt 0 filled) [
   | inl some ↦ some
@@ -61,43 +62,32 @@ module _ {S R : Type 0} {suite : SuiteGhosts S} {read : Ghosts R} where
     pub here_first : filled ≡ 0 → IsHolding old → IsHolding now
     pub opens_first : filled ≡ 0 → now.opens ≡ old.opens
 
-  pub in-one-none : (r : StreamReader S R suite read) (chunk filled : ℕ) → filled ≡ 0 → InOne r r chunk filled
-  in-one-none r chunk filled zero = record {
-    uses = λ some. absurd (omega (arith, some, zero));
-    held = λ some. absurd (omega (arith, some, zero));
-    keeps_last = λ b is. used-there r.cache b is;
-    keeps = λ _ b is. is;
-    opens = omega arith;
-    none = λ _. refl;
-    last_first = λ _. refl;
-    here_first = λ _ is. is;
-    opens_first = λ _. refl;
-  }
-
   -- it stands in the chunk that it holds, or behind the last one
   stands-in : (r : StreamReader S R suite read) (chunk : ℕ) → r.held ≡ true → 65536 * chunk < place_of r → place_of r < 65536 * chunk + 65536 →
-      ((r.held ≡ true) × (r.at < length r.cache.chunk.items)) ⊎ IsAfterLast r
+      ((r.held ≡ true) × (r.at < length r.cache.piece.items)) ⊎ IsAfterLast r
   stands-in r chunk held from to =
       let at = r.chunk held in
-      elim (cases_lt r.at (length r.cache.chunk.items)) [
+      elim (cases_lt r.at (length r.cache.piece.items)) [
         | inl less ↦ inl (held, less)
         | inr more ↦
-            let given : r.at ≡ length r.cache.chunk.items = omega (arith, at.in_chunk, more) in
+            let given : r.at ≡ length r.cache.piece.items = omega (arith, at.in_chunk, more) in
             elim (either r.cache.last) [
               | inl last ↦ inr (held, last, given)
               | inr middle ↦ absurd (omega (arith, given, at.full middle, from, to))
             ]
       ]
 
-  module _ (old mid new : StreamReader S R suite read) (chunk filled room : ℕ) (from : 65536 * chunk ≤ place_of old) (within : place_of old + room ≤ 65536 * chunk + 65536)
+  module _ (old mid new : StreamReader S R suite read) (chunk filled room : ℕ) (from : 65536 * chunk ≤ place_of old)
+      (within : place_of old + room ≤ 65536 * chunk + 65536)
       (less : filled < room) (placed : place_of mid ≡ place_of old + filled) (good : mid.failed ≡ false) (one : InOne old mid chunk filled) where
-    stands-then : 0 < filled → ((mid.held ≡ true) × (mid.at < length mid.cache.chunk.items)) ⊎ IsAfterLast mid
+    stands-then : 0 < filled → ((mid.held ≡ true) × (mid.at < length mid.cache.piece.items)) ⊎ IsAfterLast mid
     stands-then some = stands-in mid chunk (one.held some) (omega (arith, from, placed, some)) (omega (arith, within, placed, less))
 
     here-then : 0 < filled → IsHolding mid ⊎ IsAfterLast mid
     here-then some = elim (stands-then some) [ inl is ↦ inl (good, inl is) | inr is ↦ inr is ]
 
-    pub in-one-opens : (result : Result ℕ Error) → OpensFew mid new result → ReadsChunks mid new result → (new.opens ≤ old.opens + 2) × (IsHolding old → new.opens ≡ old.opens)
+    pub in-one-opens : (result : Result ℕ Error) → OpensFew mid new result → ReadsChunks mid new result
+        → (new.opens ≤ old.opens + 2) × (IsHolding old → new.opens ≡ old.opens)
     in-one-opens result few chunks = elim (cases_lt 0 filled) [
       | inl some ↦
           let same : new.opens ≡ mid.opens = elim (here-then some) [ inl is ↦ few.none is | inr is ↦ chunks.at_end is ] in
@@ -145,12 +135,20 @@ module _ {S R : Type 0} {suite : SuiteGhosts S} {read : Ghosts R} where
             opens = opens.0;
             none = opens.1;
             uses = λ some. elim (stands-then some) [
-              | inl is ↦ absurd (some-left suite.opened mid.key mid.failed mid.held mid.at mid.cache.chunk.items mid.cache.last mid.number (read.rest mid.inner) good is.0 is.1 clean)
+              | inl is ↦ absurd (some-left suite.opened mid.key mid.failed mid.held mid.at mid.cache.piece.items mid.cache.last mid.number
+                  (read.rest mid.inner) good is.0 is.1 clean)
               | inr is ↦ chunks.same_last is ∙ one.uses some
             ];
             keeps_last = keeps-last-then;
             keeps = keeps-then;
           }
 
-  pub in-one-full : {T : Type 0} {x : T} (old now : StreamReader S R suite read) (chunk filled : ℕ) → InOne old now chunk filled → FullInOne old now chunk filled (Ok x)
-  in-one-full old now chunk filled one = record { opens = one.opens; none = one.none; uses = one.uses; keeps_last = one.keeps_last; keeps = one.keeps }
+  pub in-one-full : {T : Type 0} {x : T} (old now : StreamReader S R suite read) (chunk filled : ℕ) → InOne old now chunk filled
+      → FullInOne old now chunk filled (Ok x)
+  in-one-full old now chunk filled one = record {
+    opens = one.opens;
+    none = one.none;
+    uses = one.uses;
+    keeps_last = one.keeps_last;
+    keeps = one.keeps;
+  }

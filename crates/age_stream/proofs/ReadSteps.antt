@@ -20,8 +20,10 @@ use Rattle.age_stream.proofs.Keeping.{content-kept, payload-refused, stream-kept
 
 module _ {S R : Type 0} {suite : SuiteGhosts S} {read : Ghosts R} (old new : StreamReader S R suite read) (buf : List ℕ) where
   -- a read that is refused leaves the reader failed
-  pub reads-refused : (e : Error) → KeepsPayload {T = Unit {0}} read (stops_of old) old.inner old.taken new.inner new.taken (Err e) → new.key ≡ old.key → place_of new ≡ place_of old →
-      new.failed ≡ true → Told old new e (IsFault (plain_rest_of old)) → Reads tells_of steady_of content_of place_of plain_rest_of faults_of refuses_of old new buf (Err e)
+  pub reads-refused : (e : Error) → KeepsPayload {T = Unit {0}} read (stops_of old) old.inner old.taken new.inner new.taken (Err e)
+      → new.key ≡ old.key → place_of new ≡ place_of old →
+      new.failed ≡ true → Told old new e (IsFault (plain_rest_of old))
+      → Reads tells_of steady_of content_of place_of plain_rest_of faults_of refuses_of old new buf (Err e)
   reads-refused e keeps key place failed cause = record {
     count = tt;
     same_tells = (stream-kept old new keeps key).0;
@@ -37,7 +39,8 @@ module _ {S R : Type 0} {suite : SuiteGhosts S} {read : Ghosts R} (old new : Str
     moves = λ _. tt;
     end = λ _. tt;
     stays = λ _. place;
-    left = λ _. inr (rest_failed suite.opened new.key new.failed new.held new.at new.cache.chunk.items new.cache.last new.number (read.rest new.inner) failed);
+    left = λ _. inr (rest_failed suite.opened new.key new.failed new.held new.at new.cache.piece.items new.cache.last new.number
+        (read.rest new.inner) failed);
     interrupted = λ _ i. absurd (keeps.inner.patient i);
     cause = cause;
   }
@@ -77,7 +80,8 @@ module _ {S R : Type 0} {suite : SuiteGhosts S} {read : Ghosts R} (old new : Str
     same-place : place_of new ≡ place_of old
     same-place = omega (arith, stays.number, stays.at)
 
-    pub reads-end : (result : Result ℕ Error) → KeepsPayload read (stops_of old) old.inner old.taken new.inner new.taken result → IfOk result (λ n. n ≡ 0) → OnOk result (EndsClean old new) →
+    pub reads-end : (result : Result ℕ Error) → KeepsPayload read (stops_of old) old.inner old.taken new.inner new.taken result
+        → IfOk result (λ n. n ≡ 0) → OnOk result (EndsClean old new) →
         IfErr result (RefusesPastLast old new) → Reads tells_of steady_of content_of place_of plain_rest_of faults_of refuses_of old new buf result
     reads-end (Err e) keeps none ends r =
         reads-refused e (payload-refused read old.inner new.inner old.taken new.taken e keeps) stays.key same-place r.fails r.cause
@@ -101,12 +105,14 @@ module _ {S R : Type 0} {suite : SuiteGhosts S} {read : Ghosts R} (old new : Str
       cause = λ _. tt;
     }
 
-    pub moves-end : new.sought ≡ old.sought → (result : Result ℕ Error) → IfOk result (λ n. n ≡ 0) → OnOk result (EndsClean old new) → IfErr result (RefusesPastLast old new) → Moves old new result
+    pub moves-end : new.sought ≡ old.sought → (result : Result ℕ Error) → IfOk result (λ n. n ≡ 0) → OnOk result (EndsClean old new)
+        → IfErr result (RefusesPastLast old new) → Moves old new result
     moves-end sought (Ok n) none ends r =
         record { key = stays.key; sought = sought; good = ends.good; fails = tt; placed = omega (arith, none, same-place); stayed = tt }
     moves-end sought (Err e) none ends r = record { key = stays.key; sought = sought; good = tt; fails = r.fails; placed = tt; stayed = same-place }
 
-    pub answers-end : (result : Result ℕ Error) → IfOk result (λ n. n ≡ 0) → OnOk result (EndsClean old new) → IfErr result (RefusesPastLast old new) → AnswersRead old new buf buf result
+    pub answers-end : (result : Result ℕ Error) → IfOk result (λ n. n ≡ 0) → OnOk result (EndsClean old new)
+        → IfErr result (RefusesPastLast old new) → AnswersRead old new buf buf result
     answers-end (Ok n) none ends r = record {
       gives = λ _ some. absurd (omega (arith, none, some));
       ended = λ told _. ends.ended told;
@@ -168,8 +174,10 @@ module _ {S R : Type 0} {suite : SuiteGhosts S} {read : Ghosts R} (old new : Str
 
 module _ {S R : Type 0} {suite : SuiteGhosts S} {read : Ghosts R} (old mid new : StreamReader S R suite read) where
   -- bytes of a chunk that is held were given
-  pub reads-given : (buf new_buf : List ℕ) (n : ℕ) → KeepsPayload read (stops_of old) old.inner old.taken new.inner new.taken (Ok n) → StaysAt old mid → HasOpenedAt old mid → GivesHeld mid new →
-      place_of new ≡ place_of mid + n → Delivers (take n new_buf) (plain_rest_of mid) (plain_rest_of new) → n ≡ min (length buf) (length mid.cache.chunk.items - mid.at) →
+  pub reads-given : (buf new_buf : List ℕ) (n : ℕ) → KeepsPayload read (stops_of old) old.inner old.taken new.inner new.taken (Ok n)
+      → StaysAt old mid → HasOpenedAt old mid → GivesHeld mid new →
+      place_of new ≡ place_of mid + n → Delivers (take n new_buf) (plain_rest_of mid) (plain_rest_of new)
+      → n ≡ min (length buf) (length mid.cache.piece.items - mid.at) →
       length new_buf ≡ length buf → Reads tells_of steady_of content_of place_of plain_rest_of faults_of refuses_of old new new_buf (Ok n)
   reads-given buf new_buf n keeps stays holds given moves bytes count long =
       let key = given.key ∙ stays.key in

@@ -30,7 +30,8 @@ module _ (seal_of : Seal) (opened : List ℕ → List ℕ → List ℕ → Optio
   abbrev text_of : ℕ → List ℕ
   text_of number = take 65552 (drop (65552 * number) sealed)
 
-  held_as : (last : Bool) (number : ℕ) (plain : List ℕ) → chunk_of opened key number (text_of number) ≡ Ok (plain, last) → OpensAs last seal_of key sealed number plain
+  held_as : (last : Bool) (number : ℕ) (plain : List ℕ) → chunk_of opened key number (text_of number) ≡ Ok (plain, last)
+      → OpensAs last seal_of key sealed number plain
   held_as true number plain is = judged-last seal_of opened law key k sealed b number plain is
   held_as false number plain is = judged-middle seal_of opened law key k sealed b number plain is
 
@@ -61,8 +62,10 @@ module _ (seal_of : Seal) (opened : List ℕ → List ℕ → List ℕ → Optio
       )
 
   -- with what comes after it
-  stand-after : (number : ℕ) (text : List ℕ) (middle last : Stretch) (found : Result Chunk Error) → text ≡ text_of number → chunk_of opened key number text ≡ found →
-      last.bytes ≡ [] → StandAt seal_of key sealed (65536 * suc number) middle.bytes → StandAt seal_of key sealed (65536 * number) (after_chunk middle last found).bytes
+  stand-after : (number : ℕ) (text : List ℕ) (middle last : Stretch) (found : Result Chunk Error) → text ≡ text_of number
+      → chunk_of opened key number text ≡ found →
+      last.bytes ≡ [] → StandAt seal_of key sealed (65536 * suc number) middle.bytes
+      → StandAt seal_of key sealed (65536 * number) (after_chunk middle last found).bytes
   stand-after number text middle last (Err e) same is none after = stand-none seal_of key sealed (65536 * number)
   stand-after number text middle last (Ok (plain, true)) same is none after =
       let (most, full, stands) = stand-chunk number plain true (rw same at is) in
@@ -74,9 +77,11 @@ module _ (seal_of : Seal) (opened : List ℕ → List ℕ → List ℕ → Optio
       (subst (λ (p : ℕ). StandAt seal_of key sealed p middle.bytes) next after)
 
   stand-end : (number : ℕ) (text : List ℕ) (ends_well : Bool) → text ≡ text_of number →
-      StandAt seal_of key sealed (65536 * number) (cond ends_well (after_chunk nothing (after_last [] true) (chunk_of opened key number text)) nothing).bytes
+      StandAt seal_of key sealed (65536 * number)
+      (cond ends_well (after_chunk nothing (after_last [] true) (chunk_of opened key number text)) nothing).bytes
   stand-end number text true same =
-      stand-after number text nothing (after_last [] true) (chunk_of opened key number text) same refl refl (stand-none seal_of key sealed (65536 * suc number))
+      stand-after number text nothing (after_last [] true) (chunk_of opened key number text) same refl refl
+      (stand-none seal_of key sealed (65536 * suc number))
   stand-end number text false same = stand-none seal_of key sealed (65536 * number)
 
   -- what bytes of the payload deliver that have so many full chunks
@@ -90,12 +95,14 @@ module _ (seal_of : Seal) (opened : List ℕ → List ℕ → List ℕ → Optio
       let next : drop 65552 bytes ≡ drop (65552 * suc number) sealed =
       ap (λ l. drop 65552 l) same ∙ drop-drop 65552 (65552 * number) sealed ∙ ap (λ n. drop n sealed) there in
       let size = length-drop 65552 bytes in
-      stand-after number (take 65552 bytes) (delivers opened key full (suc number) (drop 65552 bytes) ends_well) (after_last (drop 65552 bytes) ends_well)
+      stand-after number (take 65552 bytes) (delivers opened key full (suc number) (drop 65552 bytes) ends_well)
+      (after_last (drop 65552 bytes) ends_well)
       (chunk_of opened key number (take 65552 bytes)) (ap (λ l. take 65552 l) same) refl refl
       (stand-delivers full (suc number) (drop 65552 bytes) ends_well next (omega (arith, few, size)) (omega (arith, most, size)))
 
   -- what a reader delivers that stands before a chunk
-  pub stand-delivered : (number : ℕ) (rest : Stretch) → rest.bytes ≡ drop (65552 * number) sealed → StandAt seal_of key sealed (65536 * number) (payload_delivers opened key number rest).bytes
+  pub stand-delivered : (number : ℕ) (rest : Stretch) → rest.bytes ≡ drop (65552 * number) sealed
+      → StandAt seal_of key sealed (65536 * number) (payload_delivers opened key number rest).bytes
   stand-delivered number rest same =
       stand-delivers (length rest.bytes / 65552) number rest.bytes rest.ends_well same (omega arith) (omega arith)
 
@@ -117,7 +124,8 @@ module _ (seal_of : Seal) (key sealed : List ℕ) where
 module _ (seal_of : Seal) (opened : List ℕ → List ℕ → List ℕ → Option (List ℕ)) (law : IsCipher seal_of opened) (key : List ℕ) (k : AreBytesOf 32 key)
     (payload : Stretch) (b : AreBytes payload.bytes) where
   -- what is left of the chunk that is held
-  held-left : (number at : ℕ) (last : Bool) (plain : List ℕ) → IsHeld opened key payload number last at plain → at ≤ length plain → length plain ≤ 65536 →
+  held-left : (number at : ℕ) (last : Bool) (plain : List ℕ) → IsHeld opened key payload number last at plain → at ≤ length plain
+      → length plain ≤ 65536 →
       StandAt seal_of key payload.bytes (65536 * number + at) (drop at plain)
   held-left number at last plain held within small = elim (cases_lt at (length plain)) [
     | inl more ↦
@@ -126,19 +134,23 @@ module _ (seal_of : Seal) (opened : List ℕ → List ℕ → List ℕ → Optio
         stand-dropped seal_of key payload.bytes (65536 * number) at plain stands
     | inr end ↦
         let none : drop at plain ≡ [] = nil_from_length (drop at plain) (omega (arith, end, length-drop at plain)) in
-        subst (λ (l : List ℕ). StandAt seal_of key payload.bytes (65536 * number + at) l) (sym none) (stand-none seal_of key payload.bytes (65536 * number + at))
+        subst (λ (l : List ℕ). StandAt seal_of key payload.bytes (65536 * number + at) l) (sym none)
+        (stand-none seal_of key payload.bytes (65536 * number + at))
   ]
 
   -- and what comes after it
-  held-on : (number at : ℕ) (last : Bool) (plain : List ℕ) (rest : Stretch) → IsHeld opened key payload number last at plain → at ≤ length plain → length plain ≤ 65536 →
+  held-on : (number at : ℕ) (last : Bool) (plain : List ℕ) (rest : Stretch) → IsHeld opened key payload number last at plain → at ≤ length plain
+      → length plain ≤ 65536 →
       (last ≡ false → length plain ≡ 65536) → rest ≡ from_place (65552 * number + 65552) payload →
       StandAt seal_of key payload.bytes (65536 * number + at) (drop at plain ++ (behind opened key last number rest).bytes)
   held-on number at true plain rest held within small full ahead =
-      subst (λ (l : List ℕ). StandAt seal_of key payload.bytes (65536 * number + at) l) (sym (append-nil (drop at plain))) (held-left number at true plain held within small)
+      subst (λ (l : List ℕ). StandAt seal_of key payload.bytes (65536 * number + at) l) (sym (append-nil (drop at plain)))
+      (held-left number at true plain held within small)
   held-on number at false plain rest held within small full ahead =
       let next : 65552 * number + 65552 ≡ 65552 * (number + 1) = omega arith in
       let there : 65536 * (number + 1) ≡ 65536 * number + at + length (drop at plain) = omega (arith, within, full refl, length-drop at plain) in
-      let after = stand-delivered seal_of opened law key k payload.bytes b (number + 1) rest (ap (λ s. s.bytes) ahead ∙ ap (λ n. drop n payload.bytes) next) in
+      let after = stand-delivered seal_of opened law key k payload.bytes b (number + 1) rest
+      (ap (λ s. s.bytes) ahead ∙ ap (λ n. drop n payload.bytes) next) in
       stand-joined seal_of key payload.bytes (65536 * number + at) (drop at plain) (payload_delivers opened key (number + 1) rest).bytes
       (held-left number at false plain held within small)
       (subst (λ (p : ℕ). StandAt seal_of key payload.bytes p (payload_delivers opened key (number + 1) rest).bytes) there after)
@@ -151,17 +163,22 @@ module _ (seal_of : Seal) (opened : List ℕ → List ℕ → List ℕ → Optio
       (stand-delivered seal_of opened law key k payload.bytes b number rest (ap (λ s. s.bytes) is ∙ ap (λ n. drop n payload.bytes) stood))
   before-on number at taken rest stood (inr is) =
       let none : drop at (payload_delivers opened key number rest).bytes ≡ [] =
-      ap (λ s. drop at (payload_delivers opened key number s).bytes) is ∙ ap (λ s. drop at s.bytes) (delivered-nothing opened key number) ∙ drop-nil at in
-      subst (λ (l : List ℕ). StandAt seal_of key payload.bytes (65536 * number + at) l) (sym none) (stand-none seal_of key payload.bytes (65536 * number + at))
+      ap (λ s. drop at (payload_delivers opened key number s).bytes) is ∙ ap (λ s. drop at s.bytes) (delivered-nothing opened key number)
+      ∙ drop-nil at in
+      subst (λ (l : List ℕ). StandAt seal_of key payload.bytes (65536 * number + at) l) (sym none)
+      (stand-none seal_of key payload.bytes (65536 * number + at))
 
 -- what a reader can still deliver, whatever was sought
-pub stand-rest : (seal_of : Seal) (opened : List ℕ → List ℕ → List ℕ → Option (List ℕ)) (law : IsCipher seal_of opened) (key : List ℕ) (k : AreBytesOf 32 key)
-    (failed held : Bool) (at : ℕ) (chunk : List ℕ) (last sought : Bool) (number taken place : ℕ) (content rest : Stretch) → AreBytes content.bytes → StandsIn content place rest →
+pub stand-rest : (seal_of : Seal) (opened : List ℕ → List ℕ → List ℕ → Option (List ℕ)) (law : IsCipher seal_of opened) (key : List ℕ)
+    (k : AreBytesOf 32 key)
+    (failed held : Bool) (at : ℕ) (chunk : List ℕ) (last sought : Bool) (number taken place : ℕ) (content rest : Stretch) → AreBytes content.bytes
+    → StandsIn content place rest →
     (held ≡ true → at ≤ length chunk) → (held ≡ true → length chunk ≤ 65536) → (held ≡ true → last ≡ false → length chunk ≡ 65536) →
     IsSound opened key failed held at chunk last sought number taken place content rest →
     StandAt seal_of key (payload_at place taken content).bytes (65536 * number + at) (rest_of opened key failed held at chunk last number rest).bytes
 stand-rest seal_of opened law key k true held at chunk last sought number taken place content rest b stands within small full sound =
-    rw (rest_failed opened key true held at chunk last number rest refl) (stand-none seal_of key (payload_at place taken content).bytes (65536 * number + at))
+    rw (rest_failed opened key true held at chunk last number rest refl)
+    (stand-none seal_of key (payload_at place taken content).bytes (65536 * number + at))
 stand-rest seal_of opened law key k false true at chunk last sought number taken place content rest b stands within small full sound =
     let payload = payload_at place taken content in
     rw (rest-held opened key false true at chunk last number rest refl refl)
@@ -170,7 +187,8 @@ stand-rest seal_of opened law key k false true at chunk last sought number taken
 stand-rest seal_of opened law key k false false at chunk last sought number taken place content rest b stands within small full sound =
     let payload = payload_at place taken content in
     rw (rest-open opened key false false at chunk last number rest refl refl)
-    (before-on seal_of opened law key k payload (All-drop (λ x. x < 256) (place - taken) content.bytes b) number at taken rest (sound.before refl refl).stood
+    (before-on seal_of opened law key k payload (All-drop (λ x. x < 256) (place - taken) content.bytes b) number at taken rest
+    (sound.before refl refl).stood
     (taken-rest content rest place taken stands sound.fits))
 
 -- ---- a clean end of what is left
@@ -191,8 +209,10 @@ module _ (seal_of : Seal) (opened : List ℕ → List ℕ → List ℕ → Optio
         | inl byte ↦ byte
         | inr empty ↦ absurd (omega (arith, later, a.first (omega (arith, empty))))
       ] in
-      let are : AreBytes text = All-take (λ x. x < 256) 65552 (drop (65552 * number) payload.bytes) (All-drop (λ x. x < 256) (65552 * number) payload.bytes b) in
-      let whole = plain-whole number (length text) (length plain) (length payload.bytes) (shorter seal_of opened law key k number true text plain are a.opens)
+      let are : AreBytes text = All-take (λ x. x < 256) 65552 (drop (65552 * number) payload.bytes)
+      (All-drop (λ x. x < 256) (65552 * number) payload.bytes b) in
+      let whole = plain-whole number (length text) (length plain) (length payload.bytes)
+      (shorter seal_of opened law key k number true text plain are a.opens)
       (length-text 65552 (65552 * number) payload.bytes) few (some-within 65552 (65552 * number) payload.bytes a.some) in
       let by_length = plain_len-last (length payload.bytes) number (last-by_length number (length plain) (length payload.bytes) whole few some) in
       let place = last-place number (length plain) (length payload.bytes) whole in
@@ -215,19 +235,22 @@ module _ (seal_of : Seal) (opened : List ℕ → List ℕ → List ℕ → Optio
       subst (λ (n : ℕ). IsGoodEnd seal_of key payload (65536 * number + n)) all (last-good number plain (rw same at is) few ends)
   good-after number text middle last (Ok (plain, false)) same is none end on well =
       let (most, full, stands) = stand-chunk seal_of opened law key k payload.bytes b number plain false (rw same at is) in
-      let there : 65536 * suc number + length middle.bytes ≡ 65536 * number + length (plain ++ middle.bytes) = omega (arith, full refl, length-append plain middle.bytes) in
+      let there : 65536 * suc number + length middle.bytes ≡ 65536 * number + length (plain ++ middle.bytes) =
+      omega (arith, full refl, length-append plain middle.bytes) in
       subst (λ (n : ℕ). IsGoodEnd seal_of key payload n) there (on well)
 
   good-end-chunk : (number : ℕ) (text : List ℕ) (ends_well : Bool) → text ≡ text_at number payload → ends_well ≡ payload.ends_well →
       length payload.bytes ≤ 65552 * number + 65552 →
       (cond ends_well (after_chunk nothing (after_last [] true) (chunk_of opened key number text)) nothing).ends_well ≡ true →
-      IsGoodEnd seal_of key payload (65536 * number + length (cond ends_well (after_chunk nothing (after_last [] true) (chunk_of opened key number text)) nothing).bytes)
+      IsGoodEnd seal_of key payload (65536 * number
+      + length (cond ends_well (after_chunk nothing (after_last [] true) (chunk_of opened key number text)) nothing).bytes)
   good-end-chunk number text true same end few well =
       good-after number text nothing (after_last [] true) (chunk_of opened key number text) same refl refl (λ _. (few, sym end))
       (λ never. absurd (true≢false (sym never))) well
   good-end-chunk number text false same end few well = absurd (true≢false (sym well))
 
-  good-delivers : (full number : ℕ) (bytes : List ℕ) (ends_well : Bool) → bytes ≡ drop (65552 * number) payload.bytes → ends_well ≡ payload.ends_well →
+  good-delivers : (full number : ℕ) (bytes : List ℕ) (ends_well : Bool) → bytes ≡ drop (65552 * number) payload.bytes
+      → ends_well ≡ payload.ends_well →
       65552 * full ≤ length bytes → length bytes < 65552 * full + 65552 → (delivers opened key full number bytes ends_well).ends_well ≡ true →
       IsGoodEnd seal_of key payload (65536 * number + length (delivers opened key full number bytes ends_well).bytes)
   unfolding delivers
@@ -241,18 +264,22 @@ module _ (seal_of : Seal) (opened : List ℕ → List ℕ → List ℕ → Optio
       ap (λ l. drop 65552 l) same ∙ drop-drop 65552 (65552 * number) payload.bytes ∙ ap (λ n. drop n payload.bytes) there in
       let size = length-drop 65552 bytes in
       let whole = length-drop (65552 * number) payload.bytes in
-      good-after number (take 65552 bytes) (delivers opened key full (suc number) (drop 65552 bytes) ends_well) (after_last (drop 65552 bytes) ends_well)
+      good-after number (take 65552 bytes) (delivers opened key full (suc number) (drop 65552 bytes) ends_well)
+      (after_last (drop 65552 bytes) ends_well)
       (chunk_of opened key number (take 65552 bytes)) (ap (λ l. take 65552 l) same) refl refl
       (λ ends. let (none, is) = ended-by (drop 65552 bytes) ends_well ends in (omega (arith, none, size, whole, ap length same), sym end ∙ is))
       (λ on. good-delivers full (suc number) (drop 65552 bytes) ends_well next end (omega (arith, few, size)) (omega (arith, most, size)) on) well
 
-  good-delivered : (number : ℕ) (rest : Stretch) → rest ≡ from_place (65552 * number) payload → (payload_delivers opened key number rest).ends_well ≡ true →
+  good-delivered : (number : ℕ) (rest : Stretch) → rest ≡ from_place (65552 * number) payload
+      → (payload_delivers opened key number rest).ends_well ≡ true →
       IsGoodEnd seal_of key payload (65536 * number + length (payload_delivers opened key number rest).bytes)
   good-delivered number rest same well =
-      good-delivers (length rest.bytes / 65552) number rest.bytes rest.ends_well (ap (λ s. s.bytes) same) (ap (λ s. s.ends_well) same) (omega arith) (omega arith) well
+      good-delivers (length rest.bytes / 65552) number rest.bytes rest.ends_well (ap (λ s. s.bytes) same) (ap (λ s. s.ends_well) same)
+      (omega arith) (omega arith) well
 
   -- of a chunk that is held and what comes after it
-  good-held : (number at taken : ℕ) (last : Bool) (plain : List ℕ) (rest : Stretch) → IsHeld opened key payload number last at plain → at ≤ length plain → length plain ≤ 65536 →
+  good-held : (number at taken : ℕ) (last : Bool) (plain : List ℕ) (rest : Stretch) → IsHeld opened key payload number last at plain
+      → at ≤ length plain → length plain ≤ 65536 →
       (last ≡ false → length plain ≡ 65536) → IsPast payload number last taken rest → (behind opened key last number rest).ends_well ≡ true →
       IsGoodEnd seal_of key payload (65536 * number + at + length (drop at plain ++ (behind opened key last number rest).bytes))
   good-held number at taken true plain rest held within small full past well =
@@ -269,7 +296,8 @@ module _ (seal_of : Seal) (opened : List ℕ → List ℕ → List ℕ → Optio
         | inr end ↦
             let all : at ≡ length plain = omega (arith, end, within) in
             subst (λ (n : ℕ). IsGoodEnd seal_of key payload (65536 * number + n)) all
-            (good-end seal_of opened law key k payload rest number taken at true plain b held refl past all (record { bytes = empty; ends_well = ends }))
+            (good-end seal_of opened law key k payload rest number taken at true plain b held refl past all
+            (record { bytes = empty; ends_well = ends }))
       ])
   good-held number at taken false plain rest held within small full past well =
       let next : 65552 * number + 65552 ≡ 65552 * (number + 1) = omega arith in
@@ -280,39 +308,51 @@ module _ (seal_of : Seal) (opened : List ℕ → List ℕ → List ℕ → Optio
       (good-delivered (number + 1) rest (past.ahead ∙ ap (λ n. from_place n payload) next) well)
 
   -- of what stands from the chunk at the place on
-  good-before : (number at taken : ℕ) (rest : Stretch) → StandsBeforeChunk (length payload.bytes) number at taken → (rest ≡ from_place taken payload) ⊎ (rest ≡ nothing) →
-      (payload_delivers opened key number rest).ends_well ≡ true → IsGoodEnd seal_of key payload (65536 * number + at + length (drop at (payload_delivers opened key number rest).bytes))
+  good-before : (number at taken : ℕ) (rest : Stretch) → StandsBeforeChunk (length payload.bytes) number at taken
+      → (rest ≡ from_place taken payload) ⊎ (rest ≡ nothing) →
+      (payload_delivers opened key number rest).ends_well ≡ true
+      → IsGoodEnd seal_of key payload (65536 * number + at + length (drop at (payload_delivers opened key number rest).bytes))
   good-before number at taken rest before (inl is) well =
       let same : rest ≡ from_place (65552 * number) payload = is ∙ ap (λ n. from_place n payload) before.stood in
       let content = payload_delivers opened key number rest in
-      let bytes : AreBytes rest.bytes = subst (λ (s : Stretch). AreBytes s.bytes) (sym same) (All-drop (λ x. x < 256) (65552 * number) payload.bytes b) in
+      let bytes : AreBytes rest.bytes = subst (λ (s : Stretch). AreBytes s.bytes) (sym same)
+      (All-drop (λ x. x < 256) (65552 * number) payload.bytes b) in
       let long = well-length-by opened key (shorter seal_of opened law key k) (length rest.bytes) number rest bytes (omega arith) well in
-      let size : length rest.bytes ≡ length payload.bytes - 65552 * number = ap (λ s. length s.bytes) same ∙ length-drop (65552 * number) payload.bytes in
+      let size : length rest.bytes ≡ length payload.bytes - 65552 * number =
+      ap (λ s. length s.bytes) same ∙ length-drop (65552 * number) payload.bytes in
       let inside : at ≤ length content.bytes = elim (cases_lt 0 at) [
         | inl some ↦ omega (arith, before.inside some, before.under, long.less, long.enough, size)
         | inr none ↦ omega (arith, none)
       ] in
-      let there : 65536 * number + length content.bytes ≡ 65536 * number + at + length (drop at content.bytes) = omega (arith, inside, length-drop at content.bytes) in
+      let there : 65536 * number + length content.bytes ≡ 65536 * number + at + length (drop at content.bytes) =
+      omega (arith, inside, length-drop at content.bytes) in
       subst (λ (n : ℕ). IsGoodEnd seal_of key payload n) there (good-delivered number rest same well)
   good-before number at taken rest before (inr is) well =
-      let bad : false ≡ true = sym (ap (λ s. s.ends_well) (delivered-nothing opened key number)) ∙ sym (ap (λ s. (payload_delivers opened key number s).ends_well) is) ∙ well in
+      let bad : false ≡ true = sym (ap (λ s. s.ends_well) (delivered-nothing opened key number))
+      ∙ sym (ap (λ s. (payload_delivers opened key number s).ends_well) is) ∙ well in
       absurd (true≢false (sym bad))
 
 -- where what a reader can still deliver ends well, the payload does, at a length that fits, and with a last chunk
-pub good-rest : (seal_of : Seal) (opened : List ℕ → List ℕ → List ℕ → Option (List ℕ)) (law : IsCipher seal_of opened) (key : List ℕ) (k : AreBytesOf 32 key)
-    (failed held : Bool) (at : ℕ) (chunk : List ℕ) (last sought : Bool) (number taken place : ℕ) (content rest : Stretch) → AreBytes content.bytes → StandsIn content place rest →
+pub good-rest : (seal_of : Seal) (opened : List ℕ → List ℕ → List ℕ → Option (List ℕ)) (law : IsCipher seal_of opened) (key : List ℕ)
+    (k : AreBytesOf 32 key)
+    (failed held : Bool) (at : ℕ) (chunk : List ℕ) (last sought : Bool) (number taken place : ℕ) (content rest : Stretch) → AreBytes content.bytes
+    → StandsIn content place rest →
     (held ≡ true → at ≤ length chunk) → (held ≡ true → length chunk ≤ 65536) → (held ≡ true → last ≡ false → length chunk ≡ 65536) →
-    IsSound opened key failed held at chunk last sought number taken place content rest → (rest_of opened key failed held at chunk last number rest).ends_well ≡ true →
-    IsGoodEnd seal_of key (payload_at place taken content) (65536 * number + at + length (rest_of opened key failed held at chunk last number rest).bytes)
+    IsSound opened key failed held at chunk last sought number taken place content rest
+    → (rest_of opened key failed held at chunk last number rest).ends_well ≡ true →
+    IsGoodEnd seal_of key (payload_at place taken content)
+    (65536 * number + at + length (rest_of opened key failed held at chunk last number rest).bytes)
 good-rest seal_of opened law key k true held at chunk last sought number taken place content rest b stands within small full sound well =
     absurd (true≢false (sym (rw (rest_failed opened key true held at chunk last number rest refl) at well)))
 good-rest seal_of opened law key k false true at chunk last sought number taken place content rest b stands within small full sound well =
     let payload = payload_at place taken content in
     let is = rest-held opened key false true at chunk last number rest refl refl in
-    rw is (good-held seal_of opened law key k payload (All-drop (λ x. x < 256) (place - taken) content.bytes b) number at taken last chunk rest (sound.is_held refl)
+    rw is (good-held seal_of opened law key k payload (All-drop (λ x. x < 256) (place - taken) content.bytes b) number at taken last chunk rest
+    (sound.is_held refl)
     (within refl) (small refl) (full refl) (sound.is_past refl refl) (rw is at well))
 good-rest seal_of opened law key k false false at chunk last sought number taken place content rest b stands within small full sound well =
     let payload = payload_at place taken content in
     let is = rest-open opened key false false at chunk last number rest refl refl in
-    rw is (good-before seal_of opened law key k payload (All-drop (λ x. x < 256) (place - taken) content.bytes b) number at taken rest (sound.before refl refl)
+    rw is (good-before seal_of opened law key k payload (All-drop (λ x. x < 256) (place - taken) content.bytes b) number at taken rest
+    (sound.before refl refl)
     (taken-rest content rest place taken stands sound.fits) (rw is at well))

@@ -51,10 +51,13 @@ module _ {S R : Type 0} {suite : SuiteGhosts S} {read : Ghosts R} where
 
   module _ (below : Error → Type 0) (old new : StreamReader S R suite read) (to : SeekFrom) where
     -- A seek that is refused with an error that doesn't say that the target is outside. It has failed at the same place.
-    pub seek-refused : (e : Error) → below_start to (place_of old) ≡ false → KeepsPayload {T = ℕ} read (IsPayloadSeekRefusal below) old.inner old.taken new.inner new.taken (Err e) → new.key ≡ old.key → new.failed ≡ true →
+    pub seek-refused : (e : Error) → below_start to (place_of old) ≡ false
+        → KeepsPayload {T = ℕ} read (IsPayloadSeekRefusal below) old.inner old.taken new.inner new.taken (Err e) → new.key ≡ old.key
+        → new.failed ≡ true →
         place_of new ≡ place_of old → (IsOutside e → ⊥) → old.opens ≤ new.opens → new.opens ≤ old.opens + 1 →
         (IsTrue (tells_of old) → (ToEnd old to → ⊥) → new.opens ≡ old.opens) → (IsTrue (tells_of old) → HoldsEnd old → new.opens ≡ old.opens) →
-        (IsTrue (tells_of old) → IsTrue (payload_of old).ends_well → Quietly old new e (IsRefusedTarget suite.seal_of old.key (payload_of old).bytes to (place_of old) e)) →
+        (IsTrue (tells_of old) → IsTrue (payload_of old).ends_well
+        → Quietly old new e (IsRefusedTarget suite.seal_of old.key (payload_of old).bytes to (place_of old) e)) →
         (IsTrue (tells_of old) → IsTrue (payload_of old).ends_well → IsTrue (content_of old).ends_well → Quietly old new e ⊥) →
         (IsTrue (tells_of old) → SaysWhySeek below old new to e) → SeeksPayload below old new to (Err e)
     seek-refused e above keeps key failed place other counts most end held bad cause says = record {
@@ -118,7 +121,8 @@ module _ {S R : Type 0} {suite : SuiteGhosts S} {read : Ghosts R} where
     }
 
     -- A seek that leads to a place is that of any seeker.
-    pub seeks-done : (n : ℕ) → KeepsPayload read (IsPayloadSeekRefusal below) old.inner old.taken new.inner new.taken (Ok n) → new.key ≡ old.key → new.failed ≡ false →
+    pub seeks-done : (n : ℕ) → KeepsPayload read (IsPayloadSeekRefusal below) old.inner old.taken new.inner new.taken (Ok n) → new.key ≡ old.key
+        → new.failed ≡ false →
         read.faults new.inner < most_faults → (IsTrue (tells_of old) → place_of new ≡ n) → (IsTrue (tells_of old) → MayLead to (place_of old) n) →
         (IsTrue (tells_of old) → IsTrue (steady_of old) →
         (sought to (place_of old) (length (content_of old).bytes) ≡ Ok n) × (plain_rest_of new ≡ from_place n (content_of old))) →
@@ -146,26 +150,34 @@ module _ {S R : Type 0} {suite : SuiteGhosts S} {read : Ghosts R} where
 
     -- It stands in the plaintext then, if that ends well.
     pub arrived : (n : ℕ) → IsCipher suite.seal_of suite.opened → ((r : R) → IsTrue (read.tells r) → AreBytes (read.content r).bytes) →
-        KeepsPayload read (IsPayloadSeekRefusal below) old.inner old.taken new.inner new.taken (Ok n) → new.key ≡ old.key → new.failed ≡ false → IsTrue (tells_of old) →
+        KeepsPayload read (IsPayloadSeekRefusal below) old.inner old.taken new.inner new.taken (Ok n) → new.key ≡ old.key → new.failed ≡ false
+        → IsTrue (tells_of old) →
         place_of new ≡ n → in_length (plain_len (length (payload_of old).bytes)) to (place_of old) ≡ Ok n →
-        (new.held ≡ false → (read.rest new.inner ≡ from_place new.taken (payload_of new)) × (65552 * new.number < length (payload_of new).bytes)) → IsTrue (steady_of old) →
+        (new.held ≡ false → (read.rest new.inner ≡ from_place new.taken (payload_of new)) × (65552 * new.number < length (payload_of new).bytes))
+        → IsTrue (steady_of old) →
         (sought to (place_of old) (length (content_of old).bytes) ≡ Ok n) × (plain_rest_of new ≡ from_place n (content_of old))
     arrived n cipher are keeps key good told arrives ok shut steady =
         let well = and-right (tells_of old) _ steady in
         let after = told-later read old.inner new.inner keeps.inner.same told in
         let content = content-kept old new keeps key told in
         let bytes = All-drop (λ x. x < 2 ^ 8) (read.place old.inner - old.taken) (read.content old.inner).bytes (are old.inner (and-left _ _ told)) in
-        let new_bytes = All-drop (λ x. x < 2 ^ 8) (read.place new.inner - new.taken) (read.content new.inner).bytes (are new.inner (and-left _ _ after)) in
-        let sound = now-sound suite.opened new.key (shorter suite.seal_of suite.opened cipher new.key new.key_bytes) new.failed new.held new.at new.cache.chunk.items new.cache.last new.sought
-        new.number new.taken (read.place new.inner) (read.content new.inner) (read.rest new.inner) new_bytes (ap (λ d. d.ends_well) content ∙ well) good (λ held. (new.chunk held).in_chunk) (new.sound after) shut in (
-          ok-well suite.opened old.key (shorter suite.seal_of suite.opened cipher old.key old.key_bytes) (payload_of old) bytes well to (place_of old) n ok,
+        let new_bytes = All-drop (λ x. x < 2 ^ 8) (read.place new.inner - new.taken) (read.content new.inner).bytes
+        (are new.inner (and-left _ _ after)) in
+        let sound = now-sound suite.opened new.key
+        (shorter suite.seal_of suite.opened cipher new.key new.key_bytes) new.failed new.held new.at new.cache.piece.items new.cache.last
+        new.sought
+        new.number new.taken (read.place new.inner) (read.content new.inner) (read.rest new.inner) new_bytes
+        (ap (λ d. d.ends_well) content ∙ well) good (λ held. (new.chunk held).in_chunk) (new.sound after) shut in (
+          ok-well suite.opened old.key (shorter suite.seal_of suite.opened cipher old.key old.key_bytes) (payload_of old) bytes well to
+              (place_of old) n ok,
           sound ∙ ap (λ d. from_place (place_of new) d) content ∙ ap (λ m. from_place m (content_of old)) arrives,
         )
 
   -- ---- after the inner reader was asked where its end is
 
   module _ (below : Error → Type 0) (old mid new : StreamReader S R suite read) (to : SeekFrom) (cipher : IsCipher suite.seal_of suite.opened)
-      (are : (r : R) → IsTrue (read.tells r) → AreBytes (read.content r).bytes) (size : ℕ) (found : IsTrue (tells_of old) → size ≡ length (payload_of old).bytes)
+      (are : (r : R) → IsTrue (read.tells r) → AreBytes (read.content r).bytes) (size : ℕ)
+      (found : IsTrue (tells_of old) → size ≡ length (payload_of old).bytes)
       (above : below_start to (place_of old) ≡ false) {T U : Type 0} {x : T} {y : U} (stays : Stays old mid)
       (look : KeepsPayload read (IsPayloadSeekRefusal below) old.inner old.taken mid.inner mid.taken (Ok x))
       (done : KeepsPayload read (IsPayloadSeekRefusal below) mid.inner mid.taken new.inner new.taken (Ok y)) where
@@ -173,20 +185,25 @@ module _ {S R : Type 0} {suite : SuiteGhosts S} {read : Ghosts R} where
     later = told-later read old.inner mid.inner look.inner.same
 
     keeps-both : {V : Type 0} {z : V} → KeepsPayload read (IsPayloadSeekRefusal below) old.inner old.taken new.inner new.taken (Ok z)
-    keeps-both = payload-later read _ old.inner mid.inner new.inner old.taken mid.taken new.taken look (payload-done read mid.inner new.inner mid.taken new.taken done)
+    keeps-both = payload-later read _ old.inner mid.inner new.inner old.taken mid.taken new.taken look
+        (payload-done read mid.inner new.inner mid.taken new.taken done)
 
-    found-there : {r : Result ℕ Error} → IsTrue (tells_of old) → in_length (plain_len size) to (place_of old) ≡ r → in_length (plain_len (length (payload_of old).bytes)) to (place_of old) ≡ r
+    found-there : {r : Result ℕ Error} → IsTrue (tells_of old) → in_length (plain_len size) to (place_of old) ≡ r
+        → in_length (plain_len (length (payload_of old).bytes)) to (place_of old) ≡ r
     found-there told is = rw (found told) at is
 
     payload-bytes : IsTrue (tells_of old) → AreBytes (payload_of old).bytes
-    payload-bytes told = All-drop (λ x. x < 2 ^ 8) (read.place old.inner - old.taken) (read.content old.inner).bytes (are old.inner (and-left _ _ told))
+    payload-bytes told = All-drop (λ x. x < 2 ^ 8) (read.place old.inner - old.taken) (read.content old.inner).bytes
+        (are old.inner (and-left _ _ told))
 
     -- the target is before the end
-    pub seek-entered : (target len : ℕ) → FindsTarget to (place_of old) size target len → (target ≡ len → ⊥) → new.key ≡ mid.key → new.opens ≡ mid.opens →
+    pub seek-entered : (target len : ℕ) → FindsTarget to (place_of old) size target len → (target ≡ len → ⊥) → new.key ≡ mid.key
+        → new.opens ≡ mid.opens →
         Enters mid new size target old.failed → SeeksPayload below old new to (Ok target)
     seek-entered target len find apart same_key same_opens enters =
         let before_end : IsTrue (tells_of old) → ToEnd old to → ⊥ = λ told end.
-        not-end to (place_of old) (length (payload_of old).bytes) target len (rw (found told) at find.plain) above (found-there told find.ok) apart end in
+        not-end to (place_of old) (length (payload_of old).bytes) target len (rw (found told) at find.plain) above
+        (found-there told find.ok) apart end in
         let key = same_key ∙ stays.key in
         let opens = same_opens ∙ stays.opens in
         let has = λ (b : ℕ) (one : HasOne old.cache b). subst (λ k. HasOne k b) (sym stays.cache) one in
@@ -247,8 +264,10 @@ module _ {S R : Type 0} {suite : SuiteGhosts S} {read : Ghosts R} where
         }
 
     -- the target is the end
-    pub seek-ended : (target len : ℕ) → FindsTarget to (place_of old) size target len → target ≡ len → new.key ≡ mid.key → mid.opens ≤ new.opens → new.opens ≤ mid.opens + 1 →
-        (old.failed ≡ false → HasEnd mid (final_chunk size) → new.opens ≡ mid.opens) → EntersEnd mid new (final_chunk size) len → KeepsAtEnd mid new (final_chunk size) old.failed →
+    pub seek-ended : (target len : ℕ) → FindsTarget to (place_of old) size target len → target ≡ len → new.key ≡ mid.key → mid.opens ≤ new.opens
+        → new.opens ≤ mid.opens + 1 →
+        (old.failed ≡ false → HasEnd mid (final_chunk size) → new.opens ≡ mid.opens) → EntersEnd mid new (final_chunk size) len
+        → KeepsAtEnd mid new (final_chunk size) old.failed →
         SeeksPayload below old new to (Ok target)
     seek-ended target len find is_len same_key counts most none enters chunks =
         let payload = payload_of old in
@@ -256,7 +275,8 @@ module _ {S R : Type 0} {suite : SuiteGhosts S} {read : Ghosts R} where
         is-end to (place_of old) (length payload.bytes) target len (rw (found told) at find.plain) above (found-there told find.ok) is_len in
         let key = same_key ∙ stays.key in
         let arrives = λ (told : IsTrue (tells_of old)). enters.arrives (later told) ∙ sym is_len in
-        let had = λ (told : IsTrue (tells_of old)) (was : HoldsEnd old). end-looked old mid stays.held stays.cache stays.number size (found told) was.1 in
+        let had = λ (told : IsTrue (tells_of old)) (was : HoldsEnd old). end-looked old mid stays.held stays.cache stays.number size
+        (found told) was.1 in
         record {
           seeks = seeks-done below old new to target keeps-both key enters.good.0 (new.unspent enters.good.0 enters.good.1) arrives
               (λ _. in_length-leads (plain_len size) to (place_of old) _ find.ok)
@@ -269,10 +289,13 @@ module _ {S R : Type 0} {suite : SuiteGhosts S} {read : Ghosts R} where
             refused = λ _. tt;
             ends = λ told end.
                 let held = (new.sound (told-later read old.inner new.inner (keeps-both {z = target}).inner.same told)).is_held enters.good.1 in
-                let opens = subst (λ p. suite.opened new.key (chunk_nonce new.number new.cache.last) (text_at new.number p) ≡ Some new.cache.chunk.items) ((keeps-both {z = target}).payload told) held.opens in
-                ends_last suite.seal_of suite.opened cipher old.key old.key_bytes payload.bytes (payload-bytes told) new.number new.cache.chunk.items (enters.good.3 ∙ ap final_chunk (found told))
-                (subst (λ k. suite.opened k (chunk_nonce new.number true) (text_at new.number payload) ≡ Some new.cache.chunk.items) key
-                (subst (λ b. suite.opened new.key (chunk_nonce new.number b) (text_at new.number payload) ≡ Some new.cache.chunk.items) enters.good.2 opens));
+                let opens = subst (λ p. suite.opened new.key (chunk_nonce new.number new.cache.last) (text_at new.number p)
+                ≡ Some new.cache.piece.items) ((keeps-both {z = target}).payload told) held.opens in
+                ends_last suite.seal_of suite.opened cipher old.key old.key_bytes payload.bytes
+                (payload-bytes told) new.number new.cache.piece.items (enters.good.3 ∙ ap final_chunk (found told))
+                (subst (λ k. suite.opened k (chunk_nonce new.number true) (text_at new.number payload) ≡ Some new.cache.piece.items) key
+                (subst (λ b. suite.opened new.key (chunk_nonce new.number b) (text_at new.number payload) ≡ Some new.cache.piece.items)
+                enters.good.2 opens));
             bad = λ _ _. tt;
             says = λ _. tt;
           };
@@ -302,11 +325,27 @@ module _ {S R : Type 0} {suite : SuiteGhosts S} {read : Ghosts R} where
             keeps_last = λ b is.
                 let used = used-good old.failed (last_used old.cache) b is in
                 (enters.good.0, chunks.keeps_last used.0 b (ap last_used stays.cache ∙ used.1));
-            holds_end = λ told end.
-                (enters.good.0, inl (enters.good.1, enters.good.2, enters.good.3 ∙ ap final_chunk (found told ∙ sym (ap (λ p. length p.bytes) ((keeps-both {z = target}).payload told)))));
+            holds_end = λ told end. (
+              enters.good.0,
+              inl (
+                enters.good.1,
+                enters.good.2,
+                enters.good.3
+                    ∙ ap final_chunk (found told ∙ sym (ap (λ p. length p.bytes) ((keeps-both {z = target}).payload told))),
+              ),
+            );
             uses_end = λ told end apart.
                 let whole = (plain_len_says size len find.plain).whole in
-                let judged = true_from_ne_false new.cache.judged (λ none. apart (omega (arith, ((new.chunk enters.good.1).unjudged none).end, enters.arrives (later told), enters.good.3, whole, found told))) in
+                let judged = true_from_ne_false new.cache.judged
+                (λ none. apart (omega (
+                  arith,
+                  ((new.chunk enters.good.1).unjudged none).end,
+                  enters.arrives
+                      (later told),
+                  enters.good.3,
+                  whole,
+                  found told,
+                ))) in
                 rw enters.good.0 (chunks.uses judged ∙ ap (λ n. Some (final_chunk n)) (found told));
             none = λ told failed b was. (at_end told, chunks.alone failed b was.1 ∙ ap final_chunk (found told));
             unheld = λ told failed other. absurd (other (at_end told));
@@ -317,7 +356,8 @@ module _ {S R : Type 0} {suite : SuiteGhosts S} {read : Ghosts R} where
     -- the target is outside, and the inner reader was put back
     pub seek-missed : (e : Error) → RefusesTarget to (place_of old) size e → IsOutside e → Stays mid new → new.failed ≡ old.failed →
         ((r : R) → IsTrue (read.tells r) → IsTrue (read.steady r) → StandsIn (read.content r) (read.place r) (read.rest r)) →
-        (IsTrue (tells_of mid) → read.rest new.inner ≡ from_place old.taken (payload_of mid)) → (IsTrue (tells_of old) → read.place new.inner ≡ read.place old.inner) →
+        (IsTrue (tells_of mid) → read.rest new.inner ≡ from_place old.taken (payload_of mid))
+        → (IsTrue (tells_of old) → read.place new.inner ≡ read.place old.inner) →
         SeeksPayload below old new to (Err e)
     seek-missed e find refusal put same_failed stands rest inner_place =
         let payload = payload_of old in
@@ -349,12 +389,15 @@ module _ {S R : Type 0} {suite : SuiteGhosts S} {read : Ghosts R} where
             kept = λ told steady sound r.
                 let t = and-left (read.tells old.inner) (read.steady old.inner) told in
                 let s = and-right (read.tells old.inner) (read.steady old.inner) told in
-                let kept = rest-kept suite.opened old.key old.failed old.held old.cache.last old.at old.cache.chunk.items old.number (place_of old) old.taken
+                let kept = rest-kept suite.opened old.key old.failed old.held old.cache.last old.at old.cache.piece.items old.number
+                (place_of old) old.taken
                 (content_of old) payload (read.rest old.inner) (read.rest new.inner) sound (and-right (tells_of old) _ steady)
-                (taken-rest (read.content old.inner) (read.rest old.inner) (read.place old.inner) old.taken (stands old.inner t s) (old.sound told).fits) (back told) in
+                (taken-rest (read.content old.inner) (read.rest old.inner) (read.place old.inner) old.taken (stands old.inner t s)
+                (old.sound told).fits) (back told) in
                 rw (number, at, held, cache, key, same_failed) kept;
             refused = λ told well r.
-                err-well suite.opened old.key (shorter suite.seal_of suite.opened cipher old.key old.key_bytes) payload (payload-bytes told) well to (place_of old) e (found-there told find.err);
+                err-well suite.opened old.key (shorter suite.seal_of suite.opened cipher old.key old.key_bytes) payload
+                (payload-bytes told) well to (place_of old) e (found-there told find.err);
             cause = λ _ _ _ _. refusal;
           };
           target = record {
@@ -374,9 +417,19 @@ module _ {S R : Type 0} {suite : SuiteGhosts S} {read : Ghosts R} where
             inner_rest = λ told asked _.
                 let from = read.place old.inner - old.taken in
                 let there : from + old.taken ≡ read.place old.inner = omega (arith, (old.sound told).fits) in
-                back told ∙ sym (payload-place (read.content old.inner) from (read.place old.inner) old.taken refl old.taken) ∙ ap (λ n. from_place n (read.content old.inner)) there;
+                back told ∙ sym (payload-place (read.content old.inner) from (read.place old.inner) old.taken refl old.taken)
+                ∙ ap (λ n. from_place n (read.content old.inner)) there;
             clears = tt;
-            unmoved = λ _. (λ is. sym same_failed ∙ is, λ is. same_failed ∙ is, place, λ is. rw (number, at, held, cache, same_failed) is, λ is. rw (held, cache, at) is, rw (held, cache) refl, opens);
+            unmoved = λ _. (
+              λ is. sym same_failed ∙ is,
+              λ is. same_failed
+                  ∙ is,
+              place,
+              λ is. rw (number, at, held, cache, same_failed) is,
+              λ is. rw (held, cache, at) is,
+              rw (held, cache) refl,
+              opens,
+            );
             fails = λ other. absurd (other refusal);
             judges = λ _. tt;
           };

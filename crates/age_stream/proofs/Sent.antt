@@ -48,7 +48,8 @@ module _ {S W : Type 0} (seal_of : Seal) (appended : W → List ℕ → W → Ty
   pub sends-taken : (a b : StreamWriter S W) (bytes : List ℕ) → Took seal_of appended a bytes b → SendsFront seal_of appended a bytes b.inner
   sends-taken a b bytes took =
       let s = took.sending in
-      let left : length b.held.items ≡ length (a.held.items ++ bytes) - 65536 * s.count = ap length s.held ∙ length-drop (65536 * s.count) (a.held.items ++ bytes) in
+      let left : length b.held.items ≡ length (a.held.items ++ bytes) - 65536 * s.count =
+      ap length s.held ∙ length-drop (65536 * s.count) (a.held.items ++ bytes) in
       record {
         count = s.count;
         followed = λ some. omega (arith, took.followed some, left);
@@ -65,7 +66,8 @@ module _ {S W : Type 0} (seal_of : Seal) (appended : W → List ℕ → W → Ty
       (λ _. omega (arith, first.fits, some, ap length all, length-append (a.held.items ++ x) y))
 
 -- so much of the payload of a plaintext
-payload-front : {W : Type 0} (seal_of : Seal) (appended : W → List ℕ → W → Type 0) (key p : List ℕ) (k : ℕ) (a c : W) → (0 < k → 65536 * k < length p) →
+payload-front : {W : Type 0} (seal_of : Seal) (appended : W → List ℕ → W → Type 0) (key p : List ℕ) (k : ℕ) (a c : W)
+    → (0 < k → 65536 * k < length p) →
     AppendsFront appended (middles seal_of key 0 k p) a c → AppendsFront appended (payload seal_of key p) a c
 payload-front seal_of appended key p k a c followed f =
     let last = last_piece (length p) in

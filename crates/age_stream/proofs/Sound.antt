@@ -21,7 +21,8 @@ same-steady t s w t1 s1 w1 et es ew = rw (et, es) (by (t && s) refl)
     by false is = rw is refl
 
 module _ (opened : List ℕ → List ℕ → List ℕ → Option (List ℕ)) (key : List ℕ) where
-  inner-well-by : (count number : ℕ) (s : Stretch) → length s.bytes ≤ 65552 * count + 65552 → (payload_delivers opened key number s).ends_well ≡ true → s.ends_well ≡ true
+  inner-well-by : (count number : ℕ) (s : Stretch) → length s.bytes ≤ 65552 * count + 65552
+      → (payload_delivers opened key number s).ends_well ≡ true → s.ends_well ≡ true
   inner-well-by zero number s few well = (well-single opened key number s well (omega arith)).3
   inner-well-by (suc count) number s few well = elim (cases_lt 65552 (length s.bytes)) [
     | inl long ↦
@@ -38,11 +39,14 @@ module _ (opened : List ℕ → List ℕ → List ℕ → Option (List ℕ)) (ke
   behind-badly true number = refl
   behind-badly false number = ap (λ s. s.ends_well) (delivered-nothing opened key (number + 1))
 
-  ends-badly : (failed held last : Bool) (at : ℕ) (chunk : List ℕ) (number : ℕ) → (rest_of opened key failed held at chunk last number nothing).ends_well ≡ false
+  ends-badly : (failed held last : Bool) (at : ℕ) (chunk : List ℕ) (number : ℕ)
+      → (rest_of opened key failed held at chunk last number nothing).ends_well ≡ false
   ends-badly true held last at chunk number = ap (λ s. s.ends_well) (rest_failed opened key true held at chunk last number nothing refl)
-  ends-badly false true last at chunk number = ap (λ s. s.ends_well) (rest-held opened key false true at chunk last number nothing refl refl) ∙ behind-badly last number
+  ends-badly false true last at chunk number =
+      ap (λ s. s.ends_well) (rest-held opened key false true at chunk last number nothing refl refl) ∙ behind-badly last number
   ends-badly false false last at chunk number =
-      ap (λ s. s.ends_well) (rest-open opened key false false at chunk last number nothing refl refl) ∙ ap (λ s. s.ends_well) (delivered-nothing opened key number)
+      ap (λ s. s.ends_well) (rest-open opened key false false at chunk last number nothing refl refl)
+      ∙ ap (λ s. s.ends_well) (delivered-nothing opened key number)
 
   -- the inner reader was put back
   pub rest-kept : (failed held last : Bool) (at : ℕ) (chunk : List ℕ) (number place taken : ℕ) (content payload rest new_rest : Stretch) →
@@ -52,20 +56,25 @@ module _ (opened : List ℕ → List ℕ → List ℕ → Option (List ℕ)) (ke
   rest-kept failed held last at chunk number place taken content payload rest new_rest sound well (inl is) back =
       ap (λ s. rest_of opened key failed held at chunk last number s) (back ∙ sym is)
   rest-kept failed held last at chunk number place taken content payload rest new_rest sound well (inr is) back =
-      absurd (true≢false (sym well ∙ sym (ap (λ s. s.ends_well) sound) ∙ ap (λ s. (rest_of opened key failed held at chunk last number s).ends_well) is
+      absurd (true≢false (sym well ∙ sym (ap (λ s. s.ends_well) sound)
+      ∙ ap (λ s. (rest_of opened key failed held at chunk last number s).ends_well) is
       ∙ ends-badly failed held last at chunk number))
 
   module _ (law : Shorter opened key) where
-    sound-by : (failed held : Bool) (at : ℕ) (chunk : List ℕ) (last sought : Bool) (number taken place : ℕ) (content rest : Stretch) → AreBytes (payload_at place taken content).bytes →
+    sound-by : (failed held : Bool) (at : ℕ) (chunk : List ℕ) (last sought : Bool) (number taken place : ℕ) (content rest : Stretch)
+        → AreBytes (payload_at place taken content).bytes →
         (payload_delivers opened key 0 (payload_at place taken content)).ends_well ≡ true → failed ≡ false → (held ≡ true → at ≤ length chunk) →
         IsSound opened key failed held at chunk last sought number taken place content rest →
-        (held ≡ false → (rest ≡ from_place taken (payload_at place taken content)) × (65552 * number < length (payload_at place taken content).bytes)) →
-        (h : Bool) → held ≡ h → rest_of opened key failed held at chunk last number rest ≡ from_place (65536 * number + at) (payload_delivers opened key 0 (payload_at place taken content))
+        (held ≡ false → (rest ≡ from_place taken (payload_at place taken content))
+        × (65552 * number < length (payload_at place taken content).bytes)) →
+        (h : Bool) → held ≡ h → rest_of opened key failed held at chunk last number rest
+        ≡ from_place (65536 * number + at) (payload_delivers opened key 0 (payload_at place taken content))
     sound-by failed held at chunk last sought number taken place content rest bytes well good within sound before true is =
         let payload = payload_at place taken content in
         rest-held opened key failed held at chunk last number rest good is
         ∙ stretch-ext _ _ (sym (drop-append-le at chunk (behind opened key last number rest).bytes (within is))) refl
-        ∙ ap (from_place at) (held-reaches opened key law number last at chunk payload rest bytes well (sound.is_held is) (sound.is_past good is).ahead)
+        ∙ ap (from_place at) (held-reaches opened key law number last at chunk payload rest bytes well (sound.is_held is)
+        (sound.is_past good is).ahead)
         ∙ stretch-ext _ _ (drop-drop at (65536 * number) (payload_delivers opened key 0 payload).bytes) refl
     sound-by failed held at chunk last sought number taken place content rest bytes well good within sound before false is =
         let payload = payload_at place taken content in
@@ -75,10 +84,13 @@ module _ (opened : List ℕ → List ℕ → List ℕ → Option (List ℕ)) (ke
         ∙ reaches-before opened key law number at payload bytes well (λ _. there.1)
 
     -- what stands from the place on
-    pub now-sound : (failed held : Bool) (at : ℕ) (chunk : List ℕ) (last sought : Bool) (number taken place : ℕ) (content rest : Stretch) → AreBytes (payload_at place taken content).bytes →
+    pub now-sound : (failed held : Bool) (at : ℕ) (chunk : List ℕ) (last sought : Bool) (number taken place : ℕ) (content rest : Stretch)
+        → AreBytes (payload_at place taken content).bytes →
         (payload_delivers opened key 0 (payload_at place taken content)).ends_well ≡ true → failed ≡ false → (held ≡ true → at ≤ length chunk) →
         IsSound opened key failed held at chunk last sought number taken place content rest →
-        (held ≡ false → (rest ≡ from_place taken (payload_at place taken content)) × (65552 * number < length (payload_at place taken content).bytes)) →
-        rest_of opened key failed held at chunk last number rest ≡ from_place (65536 * number + at) (payload_delivers opened key 0 (payload_at place taken content))
+        (held ≡ false → (rest ≡ from_place taken (payload_at place taken content))
+        × (65552 * number < length (payload_at place taken content).bytes)) →
+        rest_of opened key failed held at chunk last number rest
+        ≡ from_place (65536 * number + at) (payload_delivers opened key 0 (payload_at place taken content))
     now-sound failed held at chunk last sought number taken place content rest bytes well good within sound before =
         sound-by failed held at chunk last sought number taken place content rest bytes well good within sound before held refl

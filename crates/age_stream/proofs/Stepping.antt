@@ -33,7 +33,8 @@ module _ {S R : Type 0} {suite : SuiteGhosts S} {read : Ghosts R} where
   next-held r good closed has = (good, inr ((λ is. absurd (true≢false (sym is ∙ closed))), rw closed has))
 
   -- the chunk at the place was opened, or refused
-  pub opens-next : {T : Type 0} (old new : StreamReader S R suite read) (result : Result T Error) → old.held ≡ false → new.number ≡ old.number → old.opens ≤ new.opens →
+  pub opens-next : {T : Type 0} (old new : StreamReader S R suite read) (result : Result T Error) → old.held ≡ false → new.number ≡ old.number
+      → old.opens ≤ new.opens →
       new.opens ≤ old.opens + 2 → (has_number old.number old.cache.other ≡ true → new.opens ≡ old.opens) →
       OnOk result (new.opens + spare new.held new.cache.last ≤ old.opens + 2) → OpensFew old new result
   opens-next old new result closed same counts most none spared =
@@ -46,7 +47,8 @@ module _ {S R : Type 0} {suite : SuiteGhosts S} {read : Ghosts R} where
         spent = omega (arith, most, two, same);
       }
 
-  module _ (old mid new : StreamReader S R suite read) (passes : PassesOn old mid) (holding : (IsHolding old → IsHolding mid) × (IsHolding mid → IsHolding old)) where
+  module _ (old mid new : StreamReader S R suite read) (passes : PassesOn old mid)
+      (holding : (IsHolding old → IsHolding mid) × (IsHolding mid → IsHolding old)) where
     told-passed : IsTrue (tells_of old) → IsTrue (tells_of mid)
     told-passed told = rw passes.inner told
 
@@ -67,10 +69,12 @@ module _ {S R : Type 0} {suite : SuiteGhosts S} {read : Ghosts R} where
     refuses-passed e r = record {
       fails = r.fails;
       cause = λ told memory quiet. subst IsFault passes.rest (r.cause (told-passed told) memory (rw passes.inner quiet));
-      refused = λ told memory quiet. rw (passes.key, passes.inner, passes.taken, passes.place, passes.wanted) at (r.refused (told-passed told) memory (rw passes.inner quiet));
+      refused = λ told memory quiet. rw (passes.key, passes.inner, passes.taken, passes.place, passes.wanted) at (r.refused
+          (told-passed told) memory (rw passes.inner quiet));
     }
 
-    pub says-passed : (e : Error) → RefusedBelow read 65552 mid.inner new.inner e ⊎ RefusesText mid new e → RefusedBelow read 65552 old.inner new.inner e ⊎ RefusesText old new e
+    pub says-passed : (e : Error) → RefusedBelow read 65552 mid.inner new.inner e ⊎ RefusesText mid new e
+        → RefusedBelow read 65552 old.inner new.inner e ⊎ RefusesText old new e
     says-passed e h = elim h [
       | inl below ↦ inl (rw passes.inner at below)
       | inr r ↦ inr (record {
@@ -89,7 +93,8 @@ module _ {S R : Type 0} {suite : SuiteGhosts S} {read : Ghosts R} where
       })
     ]
 
-    pub opens-passed : {T : Type 0} (result : Result T Error) → mid.opens + spare mid.held mid.cache.last + old.number ≤ old.opens + spare old.held old.cache.last + mid.number →
+    pub opens-passed : {T : Type 0} (result : Result T Error)
+        → mid.opens + spare mid.held mid.cache.last + old.number ≤ old.opens + spare old.held old.cache.last + mid.number →
         OpensFew mid new result → OpensFew old new result
     opens-passed result spared few = record {
       counts = omega (arith, few.counts, passes.opens);
@@ -102,7 +107,8 @@ module _ {S R : Type 0} {suite : SuiteGhosts S} {read : Ghosts R} where
   -- ---- steps of a seek
 
   -- a refusal after what changed neither the inner reader nor the place
-  pub step-refused : (old mid new : StreamReader S R suite read) {Cause More : Error → Type 0} (e : Error) → mid.inner ≡ old.inner → mid.taken ≡ old.taken → place_of mid ≡ place_of old →
+  pub step-refused : (old mid new : StreamReader S R suite read) {Cause More : Error → Type 0} (e : Error) → mid.inner ≡ old.inner
+      → mid.taken ≡ old.taken → place_of mid ≡ place_of old →
       (Cause e → More e) → RefusesStep mid new Cause e → RefusesStep old new More e
   step-refused old mid new e inner taken place more r = record {
     fails = r.fails;
@@ -112,8 +118,10 @@ module _ {S R : Type 0} {suite : SuiteGhosts S} {read : Ghosts R} where
   }
 
   -- and after another step
-  pub step-later : {T U : Type 0} {x : T} {Own Other : Error → Type 0} {result : Result U Error} (old mid new : StreamReader S R suite read) {Cause More : Error → Type 0} (e : Error) →
-      KeepsPayload read Own old.inner old.taken mid.inner mid.taken (Ok x) → KeepsPayload read Other mid.inner mid.taken new.inner new.taken result → place_of mid ≡ place_of old →
+  pub step-later : {T U : Type 0} {x : T} {Own Other : Error → Type 0} {result : Result U Error}
+      (old mid new : StreamReader S R suite read) {Cause More : Error → Type 0} (e : Error) →
+      KeepsPayload read Own old.inner old.taken mid.inner mid.taken (Ok x)
+      → KeepsPayload read Other mid.inner mid.taken new.inner new.taken result → place_of mid ≡ place_of old →
       (IsTrue (tells_of old) → Cause e → More e) → RefusesStep mid new Cause e → RefusesStep old new More e
   step-later old mid new e first second place more r = record {
     fails = r.fails;
@@ -125,7 +133,8 @@ module _ {S R : Type 0} {suite : SuiteGhosts S} {read : Ghosts R} where
   }
 
   -- what was held or kept as the last still is once the inner reader was asked
-  pub end-looked : (old mid : StreamReader S R suite read) → mid.held ≡ old.held → mid.cache ≡ old.cache → mid.number ≡ old.number → (size : ℕ) → size ≡ length (payload_of old).bytes →
+  pub end-looked : (old mid : StreamReader S R suite read) → mid.held ≡ old.held → mid.cache ≡ old.cache → mid.number ≡ old.number → (size : ℕ)
+      → size ≡ length (payload_of old).bytes →
       HasEnd old (final_chunk (length (payload_of old).bytes)) → HasEnd mid (final_chunk size)
   end-looked old mid held cache number size same is = elim is [
     | inl h ↦ inl (held ∙ h.0, ap (λ k. k.last) cache ∙ h.1, number ∙ h.2 ∙ ap final_chunk (sym same))
@@ -134,7 +143,8 @@ module _ {S R : Type 0} {suite : SuiteGhosts S} {read : Ghosts R} where
 
   -- the last chunk was opened, after another step
   pub enters-later : {T : Type 0} {x : T} {Own : Error → Type 0} (old mid new : StreamReader S R suite read) (number there len : ℕ) →
-      KeepsPayload read Own old.inner old.taken mid.inner mid.taken (Ok x) → (IsTrue (tells_of old) → there ≡ len) → EntersEnd mid new number there → EntersEnd old new number len
+      KeepsPayload read Own old.inner old.taken mid.inner mid.taken (Ok x) → (IsTrue (tells_of old) → there ≡ len)
+      → EntersEnd mid new number there → EntersEnd old new number len
   enters-later old mid new number there len first same e = record {
     good = e.good;
     arrives = λ told. e.arrives (told-later read old.inner mid.inner first.inner.same told) ∙ same told;
@@ -142,8 +152,10 @@ module _ {S R : Type 0} {suite : SuiteGhosts S} {read : Ghosts R} where
   }
 
   -- Beside it there is what was there before, which is none of a reader that had failed.
-  pub keeps-at-end : (old mid new : StreamReader S R suite read) (number : ℕ) (was_failed : Bool) → (was_failed ≡ true → (b : ℕ) → HasOne mid.cache b → ⊥) →
-      (was_failed ≡ false → last_used mid.cache ≡ last_used old.cache) → (was_failed ≡ false → HasEnd old number → ⊥) → KeepsBesideLast mid new number → KeepsAtEnd old new number was_failed
+  pub keeps-at-end : (old mid new : StreamReader S R suite read) (number : ℕ) (was_failed : Bool)
+      → (was_failed ≡ true → (b : ℕ) → HasOne mid.cache b → ⊥) →
+      (was_failed ≡ false → last_used mid.cache ≡ last_used old.cache) → (was_failed ≡ false → HasEnd old number → ⊥)
+      → KeepsBesideLast mid new number → KeepsAtEnd old new number was_failed
   keeps-at-end old mid new number was_failed none same apart kept = record {
     alone = λ failed b has. elim (kept.had b has) [ inl is ↦ is | inr was ↦ absurd (none failed b was) ];
     uses = λ judged. ap (λ u. cond u (cond new.cache.judged (Some new.cache.number) None) (option_map (λ it. it.number) new.cache.other)) kept.used.0

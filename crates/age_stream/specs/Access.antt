@@ -24,8 +24,8 @@ pub record IsInChunk (size : ℕ) (to : SeekFrom) (place room chunk : ℕ) : Typ
   pub within : start + room ≤ 65536 * chunk + 65536
 
 module _ {S R : Type 0} {suite : SuiteGhosts S} {read : Ghosts R} where
-  -- Which bytes it reads: those from where the seek leads, whatever the chunks are, and fewer than the buffer takes only at the end. On a plaintext that
-  -- ends well it is a cursor's seek and read.
+  -- Which bytes it reads: those from where the seek leads, whatever the chunks are, and fewer than
+  -- the buffer takes only at the end. On a plaintext that ends well it is a cursor's seek and read.
   pub record GivesAt (old new : StreamReader S R suite read) (to : SeekFrom) (buf : List ℕ) (result : Result ℕ Error) : Type 0 where
     pub count : IfOk result (λ n. n ≤ length buf)
     pub order : IsTrue (tells_of old) → IfOk result (λ n. (start : ℕ) × (sought_in to (place_of old) (length (payload_of old).bytes) ≡ Ok start)
@@ -38,21 +38,24 @@ module _ {S R : Type 0} {suite : SuiteGhosts S} {read : Ghosts R} where
   -- Why it refuses: for its target, or since a chunk on the way is refused. That the target is outside it says of such a target alone, unless the
   -- inner reader's own reads refuse so.
   pub record RefusesAt (old new : StreamReader S R suite read) (to : SeekFrom) (buf : List ℕ) (result : Result ℕ Error) : Type 0 where
-    pub cause : IsTrue (tells_of old) → IsTrue (content_of old).ends_well → IfErr result (λ e. e ≢ OutOfMemory → IsQuiet (faults_of old) (faults_of new) →
+    pub cause : IsTrue (tells_of old) → IsTrue (content_of old).ends_well
+        → IfErr result (λ e. e ≢ OutOfMemory → IsQuiet (faults_of old) (faults_of new) →
         sought to (place_of old) (length (content_of old).bytes) ≡ Err e)
-    pub refused : IsTrue (tells_of old) → IsTrue (payload_of old).ends_well → IfErr result (λ e. e ≢ OutOfMemory → IsQuiet (faults_of old) (faults_of new) →
+    pub refused : IsTrue (tells_of old) → IsTrue (payload_of old).ends_well
+        → IfErr result (λ e. e ≢ OutOfMemory → IsQuiet (faults_of old) (faults_of new) →
         IsRefusedTarget suite.seal_of (key_of old) (payload_of old).bytes to (place_of old) e
         ⊎ StopsWithin suite.seal_of (key_of old) (payload_of old).bytes to (place_of old) (length buf) (place_of new) e)
     pub outside : IsTrue (tells_of old) → IfErr result (λ e. IsOutside e → (TriedAgain read.refuses (inner_of old) e → ⊥) →
         sought_in to (place_of old) (length (payload_of old).bytes) ≡ Err e)
 
-  -- What is the same after it, what is left for the next call, and where a refusal leaves it. Only a seek that refuses its target leaves the reader as
-  -- it was; after any other refusal it has failed.
+  -- What is the same after it, what is left for the next call, and where a refusal leaves it. Only a
+  -- seek that refuses its target leaves the reader as it was; after any other refusal it has failed.
   pub record LeavesAt (old new : StreamReader S R suite read) (to : SeekFrom) (buf : List ℕ) (result : Result ℕ Error) : Type 0 where
     pub payload : IsTrue (tells_of old) → payload_of new ≡ payload_of old
     pub key : key_of new ≡ key_of old
     pub stands : IsTrue (tells_of old) → OnErr result (StaysOrLeads to (length (payload_of old).bytes) (place_of old) (length buf) (place_of new))
-    pub rest : IsTrue (tells_of old) → IsTrue (content_of old).ends_well → OnOk result (plain_rest_of new ≡ from_place (place_of new) (content_of old))
+    pub rest : IsTrue (tells_of old) → IsTrue (content_of old).ends_well
+        → OnOk result (plain_rest_of new ≡ from_place (place_of new) (content_of old))
     pub inner_end : IsTrue (tells_of old) → OnOk result ((inner_rest_of new).ends_well ≡ (payload_of old).ends_well)
     pub unmoved : IsTrue (tells_of old) → IfErr result (λ e. IsOutside e → sought_in to (place_of old) (length (payload_of old).bytes) ≡ Err e →
         (HasFailed new → HasFailed old) × (HasFailed old → HasFailed new) × (place_of new ≡ place_of old)
@@ -69,8 +72,8 @@ module _ {S R : Type 0} {suite : SuiteGhosts S} {read : Ghosts R} where
     pub counts : opens_of old ≤ opens_of new
     pub most : opens_of new ≤ opens_of old + room / 65536 + 4
 
-  -- Of a read whose room is in one chunk: the chunk is opened at most twice, as a middle one and as the last, and not at all where it is there. Then it
-  -- is there, and the one that was used last; and so is the one that had been used last before, and both where none was opened.
+  -- Of a read whose room is in one chunk: the chunk is opened at most twice, as a middle one and as the last, and not at all where it is
+  -- there. Then it is there, and the one that was used last; and so is the one that had been used last before, and both where none was opened.
   pub record ReadsOneChunk (old new : StreamReader S R suite read) (chunk : ℕ) (result : Result ℕ Error) : Type 0 where
     pub opens : opens_of new ≤ opens_of old + 2
     pub none : HasChunk old chunk → opens_of new ≡ opens_of old

@@ -5,9 +5,9 @@ use Rattle.age_error.specs.declared.io.Error.TheVariants.{AfterLast, BadEnd, Out
 use Rattle.age_error.specs.declared.io.SeekFrom.{SeekFrom}
 use Rattle.age_suite.specs.declared.suite.Suite.{Ghosts as SuiteGhosts}
 use Rattle.age_io.specs.declared.traits.Read.{Ghosts}
-use Rattle.age_io.specs.Cursor.{IsOutside, Seeks}
-use Rattle.age_io.specs.Reading.{TriedAgain}
+use Rattle.age_io.specs.Cursor.{IsOutside}
 use Rattle.age_io.specs.Turns.{GivesTried, RefusesTried}
+use Rattle.age_io.specs.Calls.{SeeksRetried}
 use Rattle.age_stream.specs.declared.reader.StreamReader.{StreamReader}
 use Rattle.age_stream.specs.Reader.{key_of, inner_of, payload_of, place_of, IsAfterLast}
 use Rattle.age_v1.specs.DeliveredPayload.{chunk_of}
@@ -23,7 +23,7 @@ RefusedBelow read wanted old new e = (got : List ℕ) × RefusesTried read wante
 pub record RefusedOnTheWay {R : Type 0} (read : Ghosts R) (seek_refuses : Error → Type 0) (new : R) (e : Error) : Type 0 where
   pub before : R
   pub error : Error
-  pub asked : ((to : SeekFrom) × Seeks read.tells read.steady read.content read.place read.rest read.faults (TriedAgain read.refuses) seek_refuses before new to (Err error))
+  pub asked : ((to : SeekFrom) × SeeksRetried read seek_refuses before new to (Err error))
       ⊎ ((wanted : ℕ) × RefusedBelow read wanted before new error)
   pub outside : IsOutside error → e ≡ BadEnd
   pub same : (IsOutside error → ⊥) → e ≡ error
@@ -51,8 +51,8 @@ module _ {S R : Type 0} {suite : SuiteGhosts S} {read : Ghosts R} where
     pub itself : (IsAfterLast old → ⊥) → RefusedBelow read 65552 (inner_of old) (inner_of new) e ⊎ RefusesText old new e
     pub after : IsAfterLast old → RefusedBelow read 1 (inner_of old) (inner_of new) e ⊎ RefusesMore old new e
 
-  -- Why a seek of one that tells its bytes is refused: by the order of its tests, or for the last chunk, whether or not a device failed; or memory for
-  -- the last chunk was refused; or the reader below refused.
+  -- Why a seek of one that tells its bytes is refused: by the order of its tests, or for the last chunk,
+  -- whether or not a device failed; or memory for the last chunk was refused; or the reader below refused.
   abbrev pub SaysWhySeek : (Error → Type 0) → (old new : StreamReader S R suite read) → SeekFrom → Error → Type 0
   SaysWhySeek seek_refuses old new to e = IsRefusedTarget suite.seal_of (key_of old) (payload_of old).bytes to (place_of old) e
       ⊎ (e ≡ OutOfMemory) ⊎ RefusedOnTheWay read seek_refuses (inner_of new) e

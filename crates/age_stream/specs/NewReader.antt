@@ -21,7 +21,8 @@ module _ {S R : Type 0} {suite : SuiteGhosts S} {read : Ghosts R} where
     pub inner : inner_of r ≡ input
     -- Why its reads and seeks refuse: for what is wrong with the payload, or as the input does.
     pub named : (e : Error) → refuses_of r e
-        → OwnOrInner read (Stops suite.seal_of key (from_place (read.place input) (read.content input)) (IsTrue (read.tells input && read.steady input))) input e
+        → OwnOrInner read (Stops suite.seal_of key (from_place (read.place input) (read.content input))
+        (IsTrue (read.tells input && read.steady input))) input e
     pub sealed : payload_of r ≡ from_place (read.place input) (read.content input)
     pub inner_rest : inner_rest_of r ≡ read.rest input
     pub tells : tells_of r ≡ (read.tells input && read.steady input)

@@ -9,19 +9,20 @@ use Rattle.age_v1.specs.DeliveredPayload.{text_at}
 use Rattle.age_stream.specs.PrivateWholeness.{IsUnjudged}
 use Rattle.age_stream.specs.Cache.{HasOne, has_number, last_used}
 
--- The first of them is the chunk at the place, which has a byte there or ends there. One that is held without the verdict on it is a full one, as the last.
+-- The first of them is the chunk at the place, which has a byte there or ends
+-- there. One that is held without the verdict on it is a full one, as the last.
 pub record IsAtChunk (number at : ℕ) (cache : Cache) : Type 0 where
-  pub in_chunk : at ≤ length cache.chunk.items
-  pub small : length cache.chunk.items ≤ 65536
+  pub in_chunk : at ≤ length cache.piece.items
+  pub small : length cache.piece.items ≤ 65536
   pub more : number < 2 ^ 44
-  pub full : cache.last ≡ false → length cache.chunk.items ≡ 65536
+  pub full : cache.last ≡ false → length cache.piece.items ≡ 65536
   pub first : cache.number ≡ number
-  pub unjudged : cache.judged ≡ false → IsUnjudged at cache.last cache.chunk.items
+  pub unjudged : cache.judged ≡ false → IsUnjudged at cache.last cache.piece.items
 
 -- Both are chunks of the payload, by the verdict on them.
 pub record IsKept (opened : List ℕ → List ℕ → List ℕ → Option (List ℕ)) (key : List ℕ) (payload : Stretch) (cache : Cache) : Type 0 where
-  pub first : cache.judged ≡ true → IsHeld opened key payload cache.number cache.last 0 cache.chunk.items
-  pub other : (it : Opened) → cache.other ≡ Some it → IsHeld opened key payload it.number it.last 0 it.chunk.items
+  pub first : cache.judged ≡ true → IsHeld opened key payload cache.number cache.last 0 cache.piece.items
+  pub other : (it : Opened) → cache.other ≡ Some it → IsHeld opened key payload it.number it.last 0 it.piece.items
 
 -- The text of this chunk was read.
 pub record IsText (payload : Stretch) (number : ℕ) (text : List ℕ) : Type 0 where
@@ -34,8 +35,8 @@ pub record SameChunks (old new : Cache) : Type 0 where
   pub had : (b : ℕ) → HasOne new b → HasOne old b
   pub same_last : last_used new ≡ last_used old
 
--- The chunk of this number was brought to the front, by so many openings as there were before and after. The one that was used last is there, and both
--- are where none was opened.
+-- The chunk of this number was brought to the front, by so many openings as there were
+-- before and after. The one that was used last is there, and both are where none was opened.
 pub record Brings (number : ℕ) (old new : Cache) (before after : ℕ) : Type 0 where
   pub first : (new.judged ≡ true) × (new.number ≡ number) × (new.used ≡ true)
   pub keeps_last : (b : ℕ) → last_used old ≡ Some b → HasOne new b

@@ -31,7 +31,8 @@ pub record IsLost (error answer : Error) : Type 0 where
 
 -- The inner reader is the same, wherever it stands, and so is the payload that begins where it stood before the bytes that were taken. A refusal is
 -- of this kind, or the inner reader's.
-pub record KeepsPayload {R T : Type 0} (read : Ghosts R) (Own : Error → Type 0) (old : R) (old_taken : ℕ) (new : R) (new_taken : ℕ) (result : Result T Error) : Type 0 where
+pub record KeepsPayload {R T : Type 0} (read : Ghosts R) (Own : Error → Type 0) (old : R) (old_taken : ℕ) (new : R) (new_taken : ℕ)
+    (result : Result T Error) : Type 0 where
   pub inner : KeepsReader read (OwnOrInner read Own) old new result
   pub payload : IsTrue (read.tells old && read.steady old) →
       payload_at (read.place new) new_taken (read.content new) ≡ payload_at (read.place old) old_taken (read.content old)

@@ -54,8 +54,8 @@ module _ {S R : Type 0} {suite : SuiteGhosts S} {read : Ghosts R} where
   pub record HasOpenedAt (old new : StreamReader S R suite read) : Type 0 where
     pub good : (new.failed ≡ false) × (new.held ≡ true)
     pub rest : IsTrue (tells_of old) → plain_rest_of new ≡ plain_rest_of old
-    pub end : IsTrue (tells_of old) → new.at ≡ length new.cache.chunk.items → IsCleanEnd (plain_rest_of old)
-    pub ended : IsTrue (tells_of old) → new.at ≡ length new.cache.chunk.items → IsGoodEnd suite.seal_of old.key (payload_of old) (place_of old)
+    pub end : IsTrue (tells_of old) → new.at ≡ length new.cache.piece.items → IsCleanEnd (plain_rest_of old)
+    pub ended : IsTrue (tells_of old) → new.at ≡ length new.cache.piece.items → IsGoodEnd suite.seal_of old.key (payload_of old) (place_of old)
     pub inner_end : IsTrue (tells_of old) → (read.rest new.inner).ends_well ≡ (read.rest old.inner).ends_well
     pub opened : (IsHolding old → ⊥) → one_more old.opens ≤ new.opens
     pub keeps_last : (b : ℕ) → last_used old.cache ≡ Some b → HasOne new.cache b
@@ -67,7 +67,8 @@ module _ {S R : Type 0} {suite : SuiteGhosts S} {read : Ghosts R} where
     pub cause : Told old new e (IsFault (plain_rest_of old))
     pub refused : Told old new e (RefusesItself suite.seal_of old.key (payload_of old) (read.rest old.inner) (wanted_of old) (place_of old) e)
 
-  -- how often it opens a chunk: at most twice, not at all where it has the chunk, and no more often than there are chunks up to the place that it comes to
+  -- how often it opens a chunk: at most twice, not at all where it has the chunk,
+  -- and no more often than there are chunks up to the place that it comes to
   pub record OpensFew {T : Type 0} (old new : StreamReader S R suite read) (result : Result T Error) : Type 0 where
     pub counts : old.opens ≤ new.opens
     pub most : new.opens ≤ old.opens + 2
@@ -127,14 +128,16 @@ module _ {S R : Type 0} {suite : SuiteGhosts S} {read : Ghosts R} where
 
   -- what a read into a buffer says of the payload, and what it does to the buffer
   pub record AnswersRead (old new : StreamReader S R suite read) (buf new_buf : List ℕ) (result : Result ℕ Error) : Type 0 where
-    pub gives : IsTrue (tells_of old) → IfOk result (λ n. 0 < n → Gives suite.seal_of old.key (payload_of old) (place_of old) (length buf) (take n new_buf))
+    pub gives : IsTrue (tells_of old) → IfOk result
+        (λ n. 0 < n → Gives suite.seal_of old.key (payload_of old) (place_of old) (length buf) (take n new_buf))
     pub ended : IsTrue (tells_of old) → IfOk result (λ n. n ≡ 0 → IsGoodEnd suite.seal_of old.key (payload_of old) (place_of old))
     pub inner_end : IsTrue (tells_of old) → OnOk result ((read.rest new.inner).ends_well ≡ (read.rest old.inner).ends_well)
     pub refused : IsTrue (tells_of old) → IfErr result (λ e.
         Quietly old new e (RefusesRead suite.seal_of old.key (payload_of old) (read.rest old.inner) (wanted_of old) (place_of old) e))
     pub by_itself : IsTrue (tells_of old) → (IsAfterLast old → ⊥) → IfErr result (λ e.
         Quietly old new e (RefusesItself suite.seal_of old.key (payload_of old) (read.rest old.inner) (wanted_of old) (place_of old) e))
-    pub after_last : IsTrue (tells_of old) → IsAfterLast old → IfErr result (λ e. Quietly old new e (EndsEarly 1 (read.rest old.inner) ⊎ (e ≡ AfterLast)))
+    pub after_last : IsTrue (tells_of old) → IsAfterLast old
+        → IfErr result (λ e. Quietly old new e (EndsEarly 1 (read.rest old.inner) ⊎ (e ≡ AfterLast)))
     pub beyond : IfOk result (λ n. drop n new_buf ≡ drop n buf)
     pub untouched : OnErr result (new_buf ≡ buf)
 
@@ -182,7 +185,8 @@ module _ {S R : Type 0} {suite : SuiteGhosts S} {read : Ghosts R} where
     pub taken : IsTrue (tells_of old) → new.taken ≡ place
     pub rest : IsTrue (tells_of old) → read.rest new.inner ≡ from_place place (payload_of old)
 
-  -- A step of a seek is refused, and not for its target. The reader has failed at the same place. A payload that ends well is a cause only as is said here.
+  -- A step of a seek is refused, and not for its target. The reader has failed
+  -- at the same place. A payload that ends well is a cause only as is said here.
   pub record RefusesStep (old new : StreamReader S R suite read) (Cause : Error → Type 0) (e : Error) : Type 0 where
     pub fails : new.failed ≡ true
     pub place : place_of new ≡ place_of old
@@ -193,7 +197,8 @@ module _ {S R : Type 0} {suite : SuiteGhosts S} {read : Ghosts R} where
   abbrev pub IsNoLast : StreamReader S R suite read → ℕ → Error → Type 0
   IsNoLast r number e = (e ≡ BadEnd) × (suite.opened r.key (chunk_nonce number true) (text_at number (payload_of r)) ≡ None)
 
-  -- Why a seek to the end refuses once the payload's length is known: the last chunk doesn't open, or no memory is there for it, or the reader below refused.
+  -- Why a seek to the end refuses once the payload's length is known: the last
+  -- chunk doesn't open, or no memory is there for it, or the reader below refused.
   abbrev pub SaysWhyEnd : (Error → Type 0) → (old new : StreamReader S R suite read) → ℕ → Error → Type 0
   SaysWhyEnd seek_refuses old new number e =
       (IsTrue (tells_of old) → IsNoLast old number e) ⊎ (e ≡ OutOfMemory) ⊎ RefusedOnTheWay read seek_refuses new.inner e
@@ -209,7 +214,8 @@ module _ {S R : Type 0} {suite : SuiteGhosts S} {read : Ghosts R} where
     pub has : was_failed ≡ false → (b : ℕ) → HasOne old.cache b → HasOne new.cache b
     pub same_last : was_failed ≡ false → last_used new.cache ≡ last_used old.cache
     pub none : was_failed ≡ true → (new.held ≡ false) × ((b : ℕ) → HasOne new.cache b → ⊥)
-    pub finds : IsTrue (tells_of old) → was_failed ≡ false → HasOne old.cache (place / 65536) → (new.held ≡ true) × (new.at < length new.cache.chunk.items)
+    pub finds : IsTrue (tells_of old) → was_failed ≡ false → HasOne old.cache (place / 65536)
+        → (new.held ≡ true) × (new.at < length new.cache.piece.items)
 
   -- It stands at the end of the plaintext, of this length, and holds the last chunk, of this number, as the last.
   pub record EntersEnd (old new : StreamReader S R suite read) (number len : ℕ) : Type 0 where

@@ -52,16 +52,16 @@ module _ {S R : Type 0} {suite : SuiteGhosts S} {read : Ghosts R} where
 
   -- it comes to a chunk next that it has opened
   abbrev pub ComesToOpened : StreamReader S R suite read → Type 0
-  ComesToOpened r = (r.held ≡ true → (r.cache.last ≡ false) × (r.at ≡ length r.cache.chunk.items))
+  ComesToOpened r = (r.held ≡ true → (r.cache.last ≡ false) × (r.at ≡ length r.cache.piece.items))
       × (has_number (cond r.held (r.number + 1) r.number) r.cache.other ≡ true)
 
   -- it has the chunk at the place opened
   abbrev pub IsHolding : StreamReader S R suite read → Type 0
-  IsHolding r = (r.failed ≡ false) × (((r.held ≡ true) × (r.at < length r.cache.chunk.items)) ⊎ ComesToOpened r)
+  IsHolding r = (r.failed ≡ false) × (((r.held ≡ true) × (r.at < length r.cache.piece.items)) ⊎ ComesToOpened r)
 
   -- it has come through a chunk that it holds as the last
   abbrev pub IsAfterLast : StreamReader S R suite read → Type 0
-  IsAfterLast r = (r.held ≡ true) × (r.cache.last ≡ true) × (r.at ≡ length r.cache.chunk.items)
+  IsAfterLast r = (r.held ≡ true) × (r.cache.last ≡ true) × (r.at ≡ length r.cache.piece.items)
 
   -- it has the chunk of this number opened as the last
   abbrev pub HasEnd : StreamReader S R suite read → ℕ → Type 0
@@ -99,7 +99,7 @@ module _ {S R : Type 0} {suite : SuiteGhosts S} {read : Ghosts R} where
 
   -- the plaintext that its reads can still deliver
   abbrev pub plain_rest_of : StreamReader S R suite read → Stretch
-  plain_rest_of r = rest_of suite.opened r.key r.failed r.held r.at r.cache.chunk.items r.cache.last r.number (read.rest r.inner)
+  plain_rest_of r = rest_of suite.opened r.key r.failed r.held r.at r.cache.piece.items r.cache.last r.number (read.rest r.inner)
 
   -- how often the inner reader's device failed
   abbrev pub faults_of : StreamReader S R suite read → ℕ

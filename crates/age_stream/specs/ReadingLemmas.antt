@@ -50,16 +50,22 @@ module _ (opened : List ℕ → List ℕ → List ℕ → Option (List ℕ)) (ke
   -- from a chunk on that isn't past the payload
   pub reaches-before : (number at : ℕ) (payload : Stretch) → AreBytes payload.bytes → (payload_delivers opened key 0 payload).ends_well ≡ true →
       (0 < number → 65552 * number < length payload.bytes) →
-      from_place at (payload_delivers opened key number (from_place (65552 * number) payload)) ≡ from_place (65536 * number + at) (payload_delivers opened key 0 payload)
+      from_place at (payload_delivers opened key number (from_place (65552 * number) payload))
+      ≡ from_place (65536 * number + at) (payload_delivers opened key 0 payload)
   reaches-before number at payload bytes well more =
       let on = rw zero-add at (onward opened key law number 0 payload bytes well more) in
       ap (from_place at) on ∙ stretch-ext _ _ (drop-drop at (65536 * number) (payload_delivers opened key 0 payload).bytes) refl
 
-  pub within-by : (number at : ℕ) (payload : Stretch) → AreBytes payload.bytes → (payload_delivers opened key 0 payload).ends_well ≡ true → at ≤ 65536 →
+  pub within-by : (number at : ℕ) (payload : Stretch) → AreBytes payload.bytes → (payload_delivers opened key 0 payload).ends_well ≡ true
+      → at ≤ 65536 →
       IsInside (length payload.bytes) number at → 65536 * number + at ≤ length (payload_delivers opened key 0 payload).bytes
   within-by number at payload bytes well small inside =
       let h = well-length opened key law payload bytes well in
-      elim (cases_lt 0 at) [ inl some ↦ omega (arith, h.less, h.enough, inside.inside some) | inr none ↦ omega (arith, h.less, h.enough, inside.front) ]
+      elim (cases_lt 0 at) [
+        | inl some ↦ omega (arith, h.less, h.enough, inside.inside some)
+        | inr
+            none ↦ omega (arith, h.less, h.enough, inside.front)
+      ]
 
   -- where a payload ends well, the chunk that is held is the one that the verdict accepts
   pub well-judged : (number : ℕ) (last : Bool) (at : ℕ) (chunk : List ℕ) (payload : Stretch) → AreBytes payload.bytes →
@@ -82,7 +88,8 @@ module _ (opened : List ℕ → List ℕ → List ℕ → Option (List ℕ)) (ke
 
   -- the chunk that is held, and what comes after it, is what stands from its first byte on
   pub held-reaches : (number : ℕ) (last : Bool) (at : ℕ) (chunk : List ℕ) (payload rest : Stretch) → AreBytes payload.bytes →
-      (payload_delivers opened key 0 payload).ends_well ≡ true → IsHeld opened key payload number last at chunk → rest ≡ from_place (65552 * number + 65552) payload →
+      (payload_delivers opened key 0 payload).ends_well ≡ true → IsHeld opened key payload number last at chunk
+      → rest ≡ from_place (65552 * number + 65552) payload →
       prepend chunk (behind opened key last number rest) ≡ from_place (65536 * number) (payload_delivers opened key 0 payload)
   held-reaches number last at chunk payload rest bytes well held ahead =
       let here = from_place (65552 * number) payload in
@@ -95,7 +102,8 @@ module _ (opened : List ℕ → List ℕ → List ℕ → Option (List ℕ)) (ke
       λ less. (drop_all 65552 here.bytes (text-all 65552 here.bytes less), (held.whole less).0) in
       let chunked = rw all at (delivered-chunk opened key number text more payload.ends_well chunk last (text-most 65552 here.bytes)
       short (λ less. (held.whole less).1) (well-judged number last at chunk payload bytes well held)) in
-      let moved : prepend chunk (behind opened key last number (from_place 65552 here)) ≡ payload_delivers opened key number here = rw add-one (sym chunked) in
+      let moved : prepend chunk (behind opened key last number (from_place 65552 here)) ≡ payload_delivers opened key number here =
+      rw add-one (sym chunked) in
       rw (← next) (moved ∙ on)
 
   drop-prepended : (at : ℕ) (chunk : List ℕ) (s : Stretch) → at ≤ length chunk → prepend (drop at chunk) s ≡ from_place at (prepend chunk s)
@@ -109,7 +117,8 @@ module _ (opened : List ℕ → List ℕ → List ℕ → Option (List ℕ)) (ke
       AreBytes (payload_at place taken content).bytes → (payload_delivers opened key 0 (payload_at place taken content)).ends_well ≡ true →
       (held ≡ true → at ≤ length chunk) → IsSound opened key failed held at chunk last sought number taken place content rest →
       ((rest ≡ from_place taken (payload_at place taken content)) ⊎ (rest ≡ nothing)) →
-      (rest_of opened key failed held at chunk last number rest ≡ from_place (65536 * number + at) (payload_delivers opened key 0 (payload_at place taken content)))
+      (rest_of opened key failed held at chunk last number rest
+      ≡ from_place (65536 * number + at) (payload_delivers opened key 0 (payload_at place taken content)))
       ⊎ (rest_of opened key failed held at chunk last number rest ≡ nothing)
   unfolding rest_of
   reaches_of true held at chunk last sought number taken place content rest bytes well in_chunk sound inner = inr refl
@@ -123,29 +132,35 @@ module _ (opened : List ℕ → List ℕ → List ℕ → Option (List ℕ)) (ke
       let before = sound.before refl refl in
       let there : rest ≡ from_place (65552 * number) payload = is ∙ ap (λ n. from_place n payload) before.stood in
       elim (cases_lt (65552 * number) (length payload.bytes)) [
-        | inl more ↦ inl (ap (λ s. from_place at (payload_delivers opened key number s)) there ∙ reaches-before number at payload bytes well (λ _. more))
+        | inl more ↦ inl (ap (λ s. from_place at (payload_delivers opened key number s)) there
+            ∙ reaches-before number at payload bytes well (λ _. more))
         | inr past ↦ elim (cases_lt 0 number) [
           | inl some ↦
               let empty : drop (65552 * number) payload.bytes ≡ [] = drop_all (65552 * number) payload.bytes past in
-              inr (ap (λ s. from_place at (payload_delivers opened key number s)) (there ∙ stretch-ext _ (record { bytes = []; ends_well = payload.ends_well }) empty refl)
+              inr (ap (λ s. from_place at (payload_delivers opened key number s))
+              (there ∙ stretch-ext _ (record { bytes = []; ends_well = payload.ends_well }) empty refl)
               ∙ ap (from_place at) (delivered-none opened key number payload.ends_well) ∙ nothing-from at)
-          | inr zero ↦ inl (ap (λ s. from_place at (payload_delivers opened key number s)) there ∙ reaches-before number at payload bytes well (λ s. absurd (omega arith)))
+          | inr zero ↦ inl (ap (λ s. from_place at (payload_delivers opened key number s)) there
+              ∙ reaches-before number at payload bytes well (λ s. absurd (omega arith)))
         ]
       ]
   reaches_of false false at chunk last sought number taken place content rest bytes well in_chunk sound (inr is) =
       inr (rw is (ap (from_place at) (delivered-nothing opened key number) ∙ nothing-from at))
 
   -- where a payload ends well, its reader stands in the plaintext
-  pub stream_stands : (failed held : Bool) (at : ℕ) (chunk : List ℕ) (last sought : Bool) (number taken place : ℕ) (content rest : Stretch) → AreBytes content.bytes →
+  pub stream_stands : (failed held : Bool) (at : ℕ) (chunk : List ℕ) (last sought : Bool) (number taken place : ℕ) (content rest : Stretch)
+      → AreBytes content.bytes →
       at ≤ 65536 → (held ≡ true → at ≤ length chunk) → IsSound opened key failed held at chunk last sought number taken place content rest →
       StandsIn content place rest → (payload_delivers opened key 0 (payload_at place taken content)).ends_well ≡ true →
-      StandsIn (payload_delivers opened key 0 (payload_at place taken content)) (65536 * number + at) (rest_of opened key failed held at chunk last number rest)
+      StandsIn (payload_delivers opened key 0 (payload_at place taken content)) (65536 * number + at)
+      (rest_of opened key failed held at chunk last number rest)
   stream_stands failed held at chunk last sought number taken place content rest bytes small in_chunk sound stands well =
       let payload = payload_at place taken content in
       let all : AreBytes payload.bytes = All-drop (λ x. x < 2 ^ 8) (place - taken) content.bytes bytes in
       record {
         within = within-by number at payload all well small sound.inside;
-        reaches = reaches_of failed held at chunk last sought number taken place content rest all well in_chunk sound (taken-rest content rest place taken stands sound.fits);
+        reaches = reaches_of failed held at chunk last sought number taken place content rest all well in_chunk sound
+            (taken-rest content rest place taken stands sound.fits);
       }
 
   -- a reader over a spent one has failed, or finds that out at its next read
@@ -154,7 +169,8 @@ module _ (opened : List ℕ → List ℕ → List ℕ → Option (List ℕ)) (ke
   unfolding rest_of
   stream_spent true held at chunk last number rest unspent gone = refl
   stream_spent false true at chunk last number rest unspent gone = absurd (unspent refl refl)
-  stream_spent false false at chunk last number rest unspent gone = rw gone (ap (from_place at) (delivered-nothing opened key number) ∙ nothing-from at)
+  stream_spent false false at chunk last number rest unspent gone =
+      rw gone (ap (from_place at) (delivered-nothing opened key number) ∙ nothing-from at)
 
 pub both-true : (a b : Bool) → IsTrue a → IsTrue b → IsTrue (a && b)
 both-true true b p q = q

@@ -16,8 +16,10 @@ use Rattle.age_stream.specs.Naming.{SaysWhy}
 module _ {S R : Type 0} {suite : SuiteGhosts S} {read : Ghosts R} where
   -- Which bytes it gives, and what the payload is where it finds the end. Where no seek was made, the payload was that of exactly the plaintext then.
   pub record GivesPlaintext (old new : StreamReader S R suite read) (buf new_buf : List ℕ) (result : Result ℕ Error) : Type 0 where
-    pub gives : IsTrue (tells_of old) → IfOk result (λ n. 0 < n → Gives suite.seal_of (key_of old) (payload_of old) (place_of old) (length buf) (take n new_buf))
-    pub ended : IsTrue (tells_of old) → IfOk result (λ n. n ≡ 0 → 0 < length new_buf → IsGoodEnd suite.seal_of (key_of old) (payload_of old) (place_of old))
+    pub gives : IsTrue (tells_of old) → IfOk result
+        (λ n. 0 < n → Gives suite.seal_of (key_of old) (payload_of old) (place_of old) (length buf) (take n new_buf))
+    pub ended : IsTrue (tells_of old) → IfOk result
+        (λ n. n ≡ 0 → 0 < length new_buf → IsGoodEnd suite.seal_of (key_of old) (payload_of old) (place_of old))
     pub finished : IsTrue (tells_of old) → (HasSought old → IsTrue (content_of old).ends_well) → IfOk result (λ n. n ≡ 0 → 0 < length new_buf →
         IsPayloadEnd suite.seal_of (key_of old) (payload_of old) (place_of old) (content_of old).bytes)
     pub inner_end : IsTrue (tells_of old) → OnOk result ((inner_rest_of new).ends_well ≡ (inner_rest_of old).ends_well)
@@ -29,9 +31,11 @@ module _ {S R : Type 0} {suite : SuiteGhosts S} {read : Ghosts R} where
     pub patient : IfErr result (λ e. IsInterruption e → ⊥)
     pub refused : IsTrue (tells_of old) → (HasFailed old → ⊥) → IfErr result (λ e. e ≢ OutOfMemory → IsQuiet (faults_of old) (faults_of new) →
         RefusesRead suite.seal_of (key_of old) (payload_of old) (inner_rest_of old) (wanted_of old) (place_of old) e)
-    pub by_itself : IsTrue (tells_of old) → (HasFailed old → ⊥) → (IsAfterLast old → ⊥) → IfErr result (λ e. e ≢ OutOfMemory → IsQuiet (faults_of old) (faults_of new) →
+    pub by_itself : IsTrue (tells_of old) → (HasFailed old → ⊥) → (IsAfterLast old → ⊥)
+        → IfErr result (λ e. e ≢ OutOfMemory → IsQuiet (faults_of old) (faults_of new) →
         RefusesItself suite.seal_of (key_of old) (payload_of old) (inner_rest_of old) (wanted_of old) (place_of old) e)
-    pub after_last : IsTrue (tells_of old) → (HasFailed old → ⊥) → IsAfterLast old → IfErr result (λ e. e ≢ OutOfMemory → IsQuiet (faults_of old) (faults_of new) →
+    pub after_last : IsTrue (tells_of old) → (HasFailed old → ⊥) → IsAfterLast old
+        → IfErr result (λ e. e ≢ OutOfMemory → IsQuiet (faults_of old) (faults_of new) →
         EndsEarly 1 (inner_rest_of old) ⊎ (e ≡ AfterLast))
     pub names : (HasFailed old → ⊥) → IfErr result (OwnOrInner read IsReadRefusal (inner_of old))
     pub says : (HasFailed old → ⊥) → IfErr result (SaysWhy old new)

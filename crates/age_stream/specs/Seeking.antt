@@ -43,7 +43,9 @@ module _ {S R : Type 0} {suite : SuiteGhosts S} {read : Ghosts R} where
     pub order : IsTrue (tells_of old) → IfOk result (λ n. sought_in to (place_of old) (length (payload_of old).bytes) ≡ Ok n)
     pub refused : IsTrue (tells_of old) → IfErr result (λ e. IsOutside e → sought_in to (place_of old) (length (payload_of old).bytes) ≡ Err e)
     pub ends : IsTrue (tells_of old) → OnOk result (ToEnd old to → EndsAsLast suite.seal_of (key_of old) (payload_of old).bytes)
-    pub bad : IsTrue (tells_of old) → IsTrue (payload_of old).ends_well → IfErr result (λ e. e ≢ OutOfMemory → IsQuiet (faults_of old) (faults_of new) → IsRefusedTarget suite.seal_of (key_of old) (payload_of old).bytes to (place_of old) e)
+    pub bad : IsTrue (tells_of old) → IsTrue (payload_of old).ends_well
+        → IfErr result (λ e. e ≢ OutOfMemory → IsQuiet (faults_of old) (faults_of new)
+        → IsRefusedTarget suite.seal_of (key_of old) (payload_of old).bytes to (place_of old) e)
     pub says : IsTrue (tells_of old) → IfErr result (SaysWhySeek below old new to)
 
   -- What is the same after it, and whether it has failed: a success clears a failure, a refused target leaves all as it was, the inner reader before
@@ -53,9 +55,12 @@ module _ {S R : Type 0} {suite : SuiteGhosts S} {read : Ghosts R} where
     pub key : key_of new ≡ key_of old
     pub inner_end : IsTrue (tells_of old) → OnOk result ((inner_rest_of new).ends_well ≡ (payload_of old).ends_well)
     pub inner_place : IsTrue (tells_of old) → IfErr result (λ e. IsOutside e → read.place (inner_of new) ≡ read.place (inner_of old))
-    pub inner_rest : IsTrue (tells_of old) → (IsTrue (below_start to (place_of old)) → ⊥) → IfErr result (λ e. IsOutside e → inner_rest_of new ≡ from_place (read.place (inner_of old)) (read.content (inner_of old)))
+    pub inner_rest : IsTrue (tells_of old) → (IsTrue (below_start to (place_of old)) → ⊥)
+        → IfErr result (λ e. IsOutside e → inner_rest_of new ≡ from_place (read.place (inner_of old)) (read.content (inner_of old)))
     pub clears : OnOk result (HasFailed new → ⊥)
-    pub unmoved : IfErr result (λ e. IsOutside e → (HasFailed new → HasFailed old) × (HasFailed old → HasFailed new) × (place_of new ≡ place_of old) × (IsHolding old → IsHolding new) × (IsAfterLast old → IsAfterLast new) × (wanted_of new ≡ wanted_of old) × (opens_of new ≡ opens_of old))
+    pub unmoved : IfErr result (λ e. IsOutside e
+        → (HasFailed new → HasFailed old) × (HasFailed old → HasFailed new) × (place_of new ≡ place_of old) × (IsHolding old → IsHolding new)
+        × (IsAfterLast old → IsAfterLast new) × (wanted_of new ≡ wanted_of old) × (opens_of new ≡ opens_of old))
     pub fails : IfErr result (λ e. (IsOutside e → ⊥) → HasFailed new)
     pub judges : IsTrue (tells_of old) → OnOk result ((ToEnd old to → ⊥) → IsAfterLast new → ⊥)
 
@@ -66,22 +71,24 @@ module _ {S R : Type 0} {suite : SuiteGhosts S} {read : Ghosts R} where
     pub end : IsTrue (tells_of old) → (ToEnd old to → ⊥) → opens_of new ≡ opens_of old
     pub held : IsTrue (tells_of old) → HoldsEnd old → opens_of new ≡ opens_of old
 
-  -- The opened chunks stay, and a read at a place in one of them opens nothing. Where the last chunk has to be opened, the one that was used last stays
-  -- beside it. A target at the end uses the last chunk; a full one may be held without the verdict on it, and isn't one of the two then. One that had
-  -- failed has none but the last chunk, where that was the target.
+  -- The opened chunks stay, and a read at a place in one of them opens nothing. Where the last chunk has to be opened, the
+  -- one that was used last stays beside it. A target at the end uses the last chunk; a full one may be held without the
+  -- verdict on it, and isn't one of the two then. One that had failed has none but the last chunk, where that was the target.
   pub record KeepsSought (old new : StreamReader S R suite read) (to : SeekFrom) (result : Result ℕ Error) : Type 0 where
     pub keeps : IsTrue (tells_of old) → OnOk result ((ToEnd old to → HoldsEnd old) → (b : ℕ) → HasChunk old b → HasChunk new b)
     pub unmoved_chunks : IfErr result (λ e. IsOutside e → (last_used_of new ≡ last_used_of old) × ((b : ℕ) → HasChunk old b → HasChunk new b))
     pub same_last : IsTrue (tells_of old) → OnOk result ((ToEnd old to → ⊥) → (b : ℕ) → last_used_of old ≡ Some b → last_used_of new ≡ Some b)
     pub keeps_last : OnOk result ((b : ℕ) → last_used_of old ≡ Some b → HasChunk new b)
     pub holds_end : IsTrue (tells_of old) → OnOk result (ToEnd old to → HoldsEnd new)
-    pub uses_end : IsTrue (tells_of old) → OnOk result (ToEnd old to → (length (payload_of old).bytes % 65552 ≡ 0 → ⊥) → last_used_of new ≡ Some (final_chunk (length (payload_of old).bytes)))
-    pub none : IsTrue (tells_of old) → HasFailed old → OnOk result ((b : ℕ) → HasChunk new b → ToEnd old to × (b ≡ final_chunk (length (payload_of old).bytes)))
+    pub uses_end : IsTrue (tells_of old) → OnOk result
+        (ToEnd old to → (length (payload_of old).bytes % 65552 ≡ 0 → ⊥) → last_used_of new ≡ Some (final_chunk (length (payload_of old).bytes)))
+    pub none : IsTrue (tells_of old) → HasFailed old
+        → OnOk result ((b : ℕ) → HasChunk new b → ToEnd old to × (b ≡ final_chunk (length (payload_of old).bytes)))
     pub unheld : IsTrue (tells_of old) → HasFailed old → OnOk result ((ToEnd old to → ⊥) → IsHolding new → ⊥)
     pub finds : IsTrue (tells_of old) → IfOk result (λ n. (ToEnd old to → ⊥) → HasChunk old (n / 65536) → IsHolding new)
 
-  -- All that a seek of a `StreamReader` ensures: that of every reader that seeks, where it leads and why it refuses, what it leaves, what it opens and
-  -- which of the opened chunks it has then.
+  -- All that a seek of a `StreamReader` ensures: that of every reader that seeks, where it leads
+  -- and why it refuses, what it leaves, what it opens and which of the opened chunks it has then.
   pub record SeeksPayload (below : Error → Type 0) (old new : StreamReader S R suite read) (to : SeekFrom) (result : Result ℕ Error) : Type 0 where
     pub seeks : Seeks tells_of steady_of content_of place_of plain_rest_of faults_of refuses_of (OrTooLong below) old new to result
     pub target : LeadsInPayload below old new to result

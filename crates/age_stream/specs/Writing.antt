@@ -17,8 +17,8 @@ middles seal_of key number (suc n) text =
     seal_of key (chunk_nonce number false) (take 65536 text) ++ middles seal_of key (suc number) n (drop 65536 text)
 
 -- it refused earlier, for another reason than its limit
-abbrev pub IsFailed : {S W : Type 0} → StreamWriter S W → Type 0
-IsFailed writer = writer.failed ≡ true
+abbrev pub HasFailed : {S W : Type 0} → StreamWriter S W → Type 0
+HasFailed writer = writer.failed ≡ true
 
 -- it did not
 abbrev pub IsGood : {S W : Type 0} → StreamWriter S W → Type 0
@@ -73,7 +73,7 @@ abbrev pub Refused : {S W : Type 0} → (W → ℕ → Error → Type 0) → Str
 Refused refuses writer n e = ((writer.failed ≡ true) × (e ≡ Failed))
     ⊎ ((writer.failed ≡ false) × (((e ≡ TooLong) × (2 ^ 60 < taken_len writer + n)) ⊎ RefusesChunk refuses writer.inner e))
 
--- What a write took: all bytes. One that finds room in the chunk that is held is never refused, and sends nothing.
+-- What a write took: all bytes. One that finds room in the piece that is held is never refused, and sends nothing.
 pub record TakesAll {S W : Type 0} (old new : StreamWriter S W) (bytes : List ℕ) (result : Result ℕ Error) : Type 0 where
   pub all : IfOk result (λ n. n ≡ length bytes)
   pub counts : OnOk result (taken_len new ≡ taken_len old + length bytes)
@@ -90,13 +90,13 @@ pub record TakesPiece {S W : Type 0} (old new : StreamWriter S W) (piece : List 
   pub can : result ≢ Ok false → CanExchange old piece
   pub must : CanExchange old piece → result ≢ Ok false
   pub counts : result ≡ Ok true → (taken_len new ≡ taken_len old + length piece) × (held_len new ≡ 65536) × IsGood new
-  pub fails : OnErr result (IsFailed new)
+  pub fails : OnErr result (HasFailed new)
 
 -- What a refused write leaves: past the limit all is as it was, and so it is where the writer had failed; any other refusal fails it.
 pub record FailsWriting {S W : Type 0} (old new : StreamWriter S W) (bytes : List ℕ) (result : Result ℕ Error) : Type 0 where
   pub past_limit : IsGood old → 2 ^ 60 < taken_len old + length bytes → (result ≡ Err TooLong) × (new ≡ old)
-  pub fails : taken_len old + length bytes ≤ 2 ^ 60 → OnErr result (IsFailed new)
-  pub failed : IsFailed old → (result ≡ Err Failed) × (new ≡ old)
+  pub fails : taken_len old + length bytes ≤ 2 ^ 60 → OnErr result (HasFailed new)
+  pub failed : HasFailed old → (result ≡ Err Failed) × (new ≡ old)
 
 -- what it holds, sealed as the last chunk
 abbrev pub last_seal : {S W : Type 0} → Seal → StreamWriter S W → List ℕ
@@ -110,8 +110,8 @@ pub record HandsBack {S W : Type 0} (write : WriteGhosts W) (old : StreamWriter 
 
 -- What closing leaves: a writer that is failed. Where it had failed all is as it was, else the inner writer was given a chunk.
 pub record ClosesWriter {S W T : Type 0} (write : WriteGhosts W) (old new : StreamWriter S W) (result : Result T Error) : Type 0 where
-  pub failed : IsFailed old → (result ≡ Err Failed) × (new ≡ old)
-  pub fails : IsFailed new
+  pub failed : HasFailed old → (result ≡ Err Failed) × (new ≡ old)
+  pub fails : HasFailed new
   pub why : IfErr result (Refused write.refuses old 0)
   pub hands_back : OnOk result (HandsBack write old (inner_of new))
   pub inner : IsGood old → KeepsWriter write.tells write.faults (RefusesChunk write.refuses) (inner_of old) (inner_of new) result
@@ -179,7 +179,7 @@ SendsFrontOfPayload {S} {W} seal_of inner_appended appended =
 abbrev pub ClosesPayload : {S W : Type 0} → Seal → (W → List ℕ → W → Type 0) → (StreamWriter S W → List ℕ → StreamWriter S W → Type 0) → Type 0
 ClosesPayload {S} {W} seal_of inner_appended appended =
     (start before : StreamWriter S W) (key plain : List ℕ) (first after : W) → WasMade key first start → appended start plain before
-    → (IsFailed before → after ≡ before.inner) → AppendsFront inner_appended (last_seal seal_of before) before.inner after
+    → (HasFailed before → after ≡ before.inner) → AppendsFront inner_appended (last_seal seal_of before) before.inner after
     → AppendsFront inner_appended (payload seal_of key plain) first after
 
 -- where a writer was made under a key and took a plaintext since, its inner writer was given the plaintext's payload

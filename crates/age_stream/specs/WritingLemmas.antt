@@ -54,7 +54,8 @@ module _ (seal_of : Seal) (key : List ℕ) where
 
   -- a payload is its middle chunks and then the last one
   pub payload-parts : (p : List ℕ) → payload seal_of key p
-      ≡ middles seal_of key 0 (last_piece (length p)) p ++ seal_of key (chunk_nonce (last_piece (length p)) true) (drop (65536 * last_piece (length p)) p)
+      ≡ middles seal_of key 0 (last_piece (length p)) p
+      ++ seal_of key (chunk_nonce (last_piece (length p)) true) (drop (65536 * last_piece (length p)) p)
   unfolding payload
   payload-parts p =
       let n = last_piece (length p) in
@@ -85,7 +86,14 @@ module _ {S W : Type 0} (seal_of : Seal) (inner_appended : W → List ℕ → W 
       let place : 65536 * m + 65536 * n ≡ 65536 * (m + n) = omega arith in
       let out : middles seal_of a.key a.sealed (m + n) (t ++ y)
       ≡ middles seal_of a.key a.sealed m t ++ middles seal_of b.key b.sealed n (b.held.items ++ y)
-      = rw (middles-both seal_of a.key m n a.sealed (t ++ y), middles-front seal_of a.key m a.sealed t y first.fits, rest, first.same_key, first.sealed) refl in
+      = rw (
+        middles-both seal_of a.key m n a.sealed
+            (t ++ y),
+        middles-front seal_of a.key m a.sealed t y first.fits,
+        rest,
+        first.same_key,
+        first.sealed,
+      ) refl in
       let now_sent : inner_appended a.inner (middles seal_of a.key a.sealed (m + n) (t ++ y)) c.inner
       = rw out (joins a.inner b.inner c.inner _ _ first.sent second.sent) in
       let now_held : c.held.items ≡ drop (65536 * (m + n)) (t ++ y)
@@ -100,7 +108,8 @@ module _ {S W : Type 0} (seal_of : Seal) (inner_appended : W → List ℕ → W 
       }
 
   -- what was sent while bytes still followed was taken
-  pub Took-sent : (a c : StreamWriter S W) (x : List ℕ) → Sent seal_of inner_appended a x c → (a.sealed < c.sealed → 0 < length c.held.items) → Took seal_of inner_appended a x c
+  pub Took-sent : (a c : StreamWriter S W) (x : List ℕ) → Sent seal_of inner_appended a x c → (a.sealed < c.sealed → 0 < length c.held.items)
+      → Took seal_of inner_appended a x c
   Took-sent a c x sending followed = record {
     sending = sending;
     followed = λ some. followed (omega (arith, some, sending.sealed));
@@ -111,7 +120,8 @@ module _ {S W : Type 0} (seal_of : Seal) (inner_appended : W → List ℕ → W 
       Took seal_of inner_appended a (x ++ y) c
   Took-both joins a b c x y first second =
       let left : length c.held.items ≡ length b.held.items + length y - 65536 * second.sending.count =
-      ap length second.sending.held ∙ length-drop (65536 * second.sending.count) (b.held.items ++ y) ∙ ap (λ k. k - 65536 * second.sending.count) (length-append b.held.items y) in
+      ap length second.sending.held ∙ length-drop (65536 * second.sending.count) (b.held.items ++ y)
+      ∙ ap (λ k. k - 65536 * second.sending.count) (length-append b.held.items y) in
       Took-sent a c (x ++ y) (Sent-both joins a b c x y first.sending second.sending) (λ less. elim (cases_lt 0 second.sending.count) [
         | inl more ↦ second.followed more
         | inr none ↦
@@ -134,7 +144,8 @@ module _ {S W : Type 0} (seal_of : Seal) (inner_appended : W → List ℕ → W 
       }
 
   -- a full piece goes out as a middle chunk, where nothing is held
-  pub Sent-piece : (a c : StreamWriter S W) (x : List ℕ) → a.held.items ≡ [] → length x ≡ 65536 → c.key ≡ a.key → c.held.items ≡ [] → c.sealed ≡ a.sealed + 1 →
+  pub Sent-piece : (a c : StreamWriter S W) (x : List ℕ) → a.held.items ≡ [] → length x ≡ 65536 → c.key ≡ a.key → c.held.items ≡ []
+      → c.sealed ≡ a.sealed + 1 →
       inner_appended a.inner (seal_of a.key (chunk_nonce a.sealed false) x) c.inner → Sent seal_of inner_appended a x c
   Sent-piece a c x empty full key held sealed sent =
       let t : a.held.items ++ x ≡ x = ap (λ (h : List ℕ). h ++ x) empty in
@@ -178,7 +189,14 @@ module _ {S W : Type 0} (seal_of : Seal) (inner_appended : W → List ℕ → W 
       drop-append-le (65536 * m) t y first.fits ∙ ap (λ (h : List ℕ). h ++ y) (sym first.held) in
       let out : middles seal_of a.key a.sealed (m + n) (t ++ y)
       ≡ middles seal_of a.key a.sealed m t ++ middles seal_of b.key b.sealed n (b.held.items ++ y)
-      = rw (middles-both seal_of a.key m n a.sealed (t ++ y), middles-front seal_of a.key m a.sealed t y first.fits, rest, first.same_key, first.sealed) refl in
+      = rw (
+        middles-both seal_of a.key m n a.sealed
+            (t ++ y),
+        middles-front seal_of a.key m a.sealed t y first.fits,
+        rest,
+        first.same_key,
+        first.sealed,
+      ) refl in
       let front : AppendsFront inner_appended (middles seal_of a.key a.sealed (m + n) (t ++ y)) a.inner c
       = rw out (front-later inner_appended joins _ _ a.inner b.inner c first.sent second.out) in
       record {
@@ -196,7 +214,8 @@ module _ {S W : Type 0} (seal_of : Seal) (inner_appended : W → List ℕ → W 
       SendsFront seal_of inner_appended a (x ++ y) c
   sends-after joins a b c x y took second =
       let s = took.sending in
-      let left : length b.held.items ≡ length (a.held.items ++ x) - 65536 * s.count = ap length s.held ∙ length-drop (65536 * s.count) (a.held.items ++ x) in
+      let left : length b.held.items ≡ length (a.held.items ++ x) - 65536 * s.count =
+      ap length s.held ∙ length-drop (65536 * s.count) (a.held.items ++ x) in
       let all : a.held.items ++ (x ++ y) ≡ (a.held.items ++ x) ++ y = sym (append_assoc a.held.items x y) in
       sends-later joins a b c x y s second
       (λ some. omega (arith, took.followed some, left, ap length all, length-append (a.held.items ++ x) y))
@@ -224,7 +243,8 @@ module _ {S W : Type 0} (seal_of : Seal) (inner_appended : W → List ℕ → W 
       inr (inr (good, good_after, took))
 
   -- what a writer took that is good
-  pub Appended-took : (a c : StreamWriter S W) (x : List ℕ) → c.failed ≡ false → Appended seal_of inner_appended a x c → Took seal_of inner_appended a x c
+  pub Appended-took : (a c : StreamWriter S W) (x : List ℕ) → c.failed ≡ false → Appended seal_of inner_appended a x c
+      → Took seal_of inner_appended a x c
   Appended-took a c x good (inl stays) = absurd (true≢false (sym (ap (λ (s : StreamWriter S W). s.failed) stays.same ∙ stays.failed) ∙ good))
   Appended-took a c x good (inr (inl since)) = absurd (true≢false (sym since.failed ∙ good))
   Appended-took a c x good (inr (inr taken)) = taken.2
@@ -260,7 +280,8 @@ module _ {S W : Type 0} (seal_of : Seal) (inner_appended : W → List ℕ → W 
   count-is start writer plain empty small took =
       let t : start.held.items ++ plain ≡ plain = ap (λ (h : List ℕ). h ++ plain) empty in
       let left : length writer.held.items ≡ length plain - 65536 * took.sending.count =
-      ap length took.sending.held ∙ length-drop (65536 * took.sending.count) (start.held.items ++ plain) ∙ ap (λ (z : List ℕ). length z - 65536 * took.sending.count) t in
+      ap length took.sending.held ∙ length-drop (65536 * took.sending.count) (start.held.items ++ plain)
+      ∙ ap (λ (z : List ℕ). length z - 65536 * took.sending.count) t in
       let n = took.sending.count in
       let whole : 65536 * n ≤ length plain = rw t at took.sending.fits in
       elim (cases_lt 0 n) [

@@ -58,7 +58,8 @@ impl<S: Suite, R: Seek> StreamReader<S, R> {
     /// opens at most twice, and not at all where it has that chunk. It has the chunk then, as the one that was used last, and the
     /// one that was used last before; and where it had the chunk, both that it had (`chunks`).
     pub fn read_at(&mut self, to: SeekFrom, buf: &mut [u8]) -> Result<usize, Error>
-        ensures keeps { KeepsReader ⟦<StreamReader<S, R> as Read>⟧ (OrSeek (OrTooLong R.seek_refuses) ⟦<StreamReader<S, R> as Read>⟧.refuses) self.old self.new result }
+        ensures keeps { KeepsReader ⟦<StreamReader<S, R> as Read>⟧
+            (OrSeek (OrTooLong R.seek_refuses) ⟦<StreamReader<S, R> as Read>⟧.refuses) self.old self.new result }
         ensures gives { GivesAt self.old self.new to buf.new result }
         ensures refuses { RefusesAt self.old self.new to buf.new result }
         ensures leaves { LeavesAt self.old self.new to buf.new result }

@@ -18,9 +18,9 @@ use std::mem;
 #[derive(Drop)]
 pub(crate) struct Opened {
     pub(crate) number: u64,
-    pub(crate) chunk: Vec<u8>,
+    pub(crate) piece: Vec<u8>,
     pub(crate) last: bool,
-    ghost whole: { IsChunkSize number last chunk.items },
+    ghost whole: { IsChunkSize number last piece.items },
 }
 
 /// At most two chunks that were opened.
@@ -28,14 +28,14 @@ pub(crate) struct Opened {
 pub(crate) struct Cache {
     // The plaintext of the chunk of this number, and whether that was opened as the last.
     pub(crate) number: u64,
-    pub(crate) chunk: Vec<u8>,
+    pub(crate) piece: Vec<u8>,
     pub(crate) last: bool,
     // Whether that is by the verdict on it. A seek to the end takes a full chunk as the last without one.
     pub(crate) judged: bool,
     // Another one, and whether the first was used after it.
     pub(crate) other: Option<Opened>,
     pub(crate) used: bool,
-    ghost whole: { judged ≡ true → IsChunkSize number last chunk.items },
+    ghost whole: { judged ≡ true → IsChunkSize number last piece.items },
 }
 
 impl Cache {
@@ -70,7 +70,7 @@ impl Cache {
     {
         Cache {
             number: 0,
-            chunk: Vec::new(alloc),
+            piece: Vec::new(alloc),
             last: false,
             judged: false,
             other: None,
@@ -84,7 +84,7 @@ impl Cache {
         ensures same { (self.new.other ≡ self.old.other) × (self.new.used ≡ self.old.used) }
         ensures some { self.old.judged ≡ true → IsSome result }
         ensures is { (it : Opened) → result ≡ Some it →
-            (self.old.judged ≡ true) × (it.number ≡ self.old.number) × (it.chunk ≡ self.old.chunk) × (it.last ≡ self.old.last) }
+            (self.old.judged ≡ true) × (it.number ≡ self.old.number) × (it.piece ≡ self.old.piece) × (it.last ≡ self.old.last) }
     {
         if !self.judged {
             return None;
@@ -92,17 +92,19 @@ impl Cache {
         self.judged = false;
         Some(Opened {
             number: self.number,
-            chunk: mem::replace(&mut self.chunk, Vec::new(alloc)),
+            piece: mem::replace(&mut self.piece, Vec::new(alloc)),
             last: self.last,
         })
     }
 
     // Exchanges the two.
     fn exchange(&mut self, alloc: Global)
-        ensures kept { (opened : List ℕ → List ℕ → List ℕ → Option (List ℕ)) (key : List ℕ) (payload : Stretch) → IsKept opened key payload self.old → IsKept opened key payload self.new }
+        ensures kept { (opened : List ℕ → List ℕ → List ℕ → Option (List ℕ)) (key : List ℕ) (payload : Stretch)
+            → IsKept opened key payload self.old → IsKept opened key payload self.new }
         ensures same { SameChunks self.old self.new }
         ensures brought { (b : ℕ) → has_number b self.old.other ≡ true → (self.new.judged ≡ true) × (self.new.number ≡ b) }
-        ensures brought_last { (b : ℕ) → has_last b self.old.other ≡ true → (self.new.judged ≡ true) × (self.new.number ≡ b) × (self.new.last ≡ true) }
+        ensures brought_last { (b : ℕ) → has_last b self.old.other ≡ true
+            → (self.new.judged ≡ true) × (self.new.number ≡ b) × (self.new.last ≡ true) }
         ensures put { self.old.judged ≡ true → has_number self.old.number self.new.other ≡ true }
         ensures used { self.old.used ≡ false → self.new.used ≡ true }
     {
@@ -114,12 +116,12 @@ impl Cache {
             Some(
                 Opened {
                     number,
-                    chunk,
+                    piece,
                     last,
                 },
             ) => {
                 self.number = number;
-                self.chunk = chunk;
+                self.piece = piece;
                 self.last = last;
                 self.judged = true;
             }
@@ -128,7 +130,8 @@ impl Cache {
 
     /// Gives up the chunk that wasn't used last.
     pub(crate) fn make_room(&mut self, alloc: Global)
-        ensures kept { (opened : List ℕ → List ℕ → List ℕ → Option (List ℕ)) (key : List ℕ) (payload : Stretch) → IsKept opened key payload self.old → IsKept opened key payload self.new }
+        ensures kept { (opened : List ℕ → List ℕ → List ℕ → Option (List ℕ)) (key : List ℕ) (payload : Stretch)
+            → IsKept opened key payload self.old → IsKept opened key payload self.new }
         ensures had { (b : ℕ) → HasOne self.new b → HasOne self.old b }
         ensures same_last { last_used self.new ≡ last_used self.old }
         ensures alone { (self.new.other ≡ None) × (self.new.used ≡ true) }
@@ -144,21 +147,22 @@ impl Cache {
         &mut self,
         alloc: Global,
         number: u64,
-        chunk: Vec<u8>,
+        piece: Vec<u8>,
         last: bool,
         judged: bool,
     )
-        requires whole { judged ≡ true → IsChunkSize number last chunk.items }
+        requires whole { judged ≡ true → IsChunkSize number last piece.items }
         requires room { self.old.other ≡ None }
-        ensures first { (self.new.number ≡ number) × (self.new.chunk ≡ chunk) × (self.new.last ≡ last) × (self.new.judged ≡ judged) × (self.new.used ≡ true) }
+        ensures first { (self.new.number ≡ number) × (self.new.piece ≡ piece) × (self.new.last ≡ last) × (self.new.judged ≡ judged)
+            × (self.new.used ≡ true) }
         ensures kept { (opened : List ℕ → List ℕ → List ℕ → Option (List ℕ)) (key : List ℕ) (payload : Stretch) → IsKept opened key payload self.old →
-            (judged ≡ true → IsHeld opened key payload number last 0 chunk.items) → IsKept opened key payload self.new }
+            (judged ≡ true → IsHeld opened key payload number last 0 piece.items) → IsKept opened key payload self.new }
         ensures had { (b : ℕ) → HasOne self.new b → (b ≡ number) ⊎ HasOne self.old b }
         ensures keeps_last { self.old.used ≡ true → (b : ℕ) → last_used self.old ≡ Some b → HasOne self.new b }
     {
         self.exchange(alloc);
         self.number = number;
-        self.chunk = chunk;
+        self.piece = piece;
         self.last = last;
         self.judged = judged;
         self.used = true;
@@ -166,12 +170,13 @@ impl Cache {
 
     /// Gives up both, unless they are kept.
     pub(crate) fn keep_if(&mut self, alloc: Global, are_kept: bool)
-        ensures kept { (opened : List ℕ → List ℕ → List ℕ → Option (List ℕ)) (key : List ℕ) (payload : Stretch) → IsKept opened key payload self.old → IsKept opened key payload self.new }
+        ensures kept { (opened : List ℕ → List ℕ → List ℕ → Option (List ℕ)) (key : List ℕ) (payload : Stretch)
+            → IsKept opened key payload self.old → IsKept opened key payload self.new }
         ensures same { are_kept ≡ true → self.new ≡ self.old }
         ensures none { are_kept ≡ false → (b : ℕ) → HasOne self.new b → ⊥ }
     {
         if !are_kept {
-            self.chunk = Vec::new(alloc);
+            self.piece = Vec::new(alloc);
             self.judged = false;
             self.other = None;
         }
@@ -179,22 +184,25 @@ impl Cache {
 
     /// Whether the chunk of this number is there by the verdict on it and has a byte at this place. It is the first then.
     pub(crate) fn find(&mut self, alloc: Global, number: u64, at: usize) -> bool
-        ensures found { IsTrue result → (self.new.judged ≡ true) × (self.new.number ≡ number) × (at < length self.new.chunk.items) }
-        ensures none { result ≡ false → HasOne self.old number → (self.new.judged ≡ true) × (self.new.number ≡ number) × (length self.new.chunk.items ≤ at) }
-        ensures kept { (opened : List ℕ → List ℕ → List ℕ → Option (List ℕ)) (key : List ℕ) (payload : Stretch) → IsKept opened key payload self.old → IsKept opened key payload self.new }
+        ensures found { IsTrue result → (self.new.judged ≡ true) × (self.new.number ≡ number) × (at < length self.new.piece.items) }
+        ensures none { result ≡ false → HasOne self.old number
+            → (self.new.judged ≡ true) × (self.new.number ≡ number) × (length self.new.piece.items ≤ at) }
+        ensures kept { (opened : List ℕ → List ℕ → List ℕ → Option (List ℕ)) (key : List ℕ) (payload : Stretch)
+            → IsKept opened key payload self.old → IsKept opened key payload self.new }
         ensures same { SameChunks self.old self.new }
     {
         if Cache::is_chunk(&self.other, number) {
             self.exchange(alloc);
         }
-        self.judged && self.number == number && at < self.chunk.len()
+        self.judged && self.number == number && at < self.piece.len()
     }
 
     /// Whether the chunk of this number is there as the last, by the verdict on it. It is the first then.
     pub(crate) fn find_last(&mut self, alloc: Global, number: u64) -> bool
         ensures found { IsTrue result → (self.new.judged ≡ true) × (self.new.number ≡ number) × (self.new.last ≡ true) }
         ensures none { result ≡ false → HasLast self.old number → ⊥ }
-        ensures kept { (opened : List ℕ → List ℕ → List ℕ → Option (List ℕ)) (key : List ℕ) (payload : Stretch) → IsKept opened key payload self.old → IsKept opened key payload self.new }
+        ensures kept { (opened : List ℕ → List ℕ → List ℕ → Option (List ℕ)) (key : List ℕ) (payload : Stretch)
+            → IsKept opened key payload self.old → IsKept opened key payload self.new }
         ensures same { SameChunks self.old self.new }
     {
         if Cache::is_last_chunk(&self.other, number) {
@@ -214,7 +222,8 @@ impl Cache {
         text: &[u8],
     ) -> Result<(), Error>
         requires { length text.now ≤ 65552 }
-        ensures kept { (payload : Stretch) → IsKept S.opened key.now payload self.old → IsText payload number text.now → IsKept S.opened key.now payload self.new }
+        ensures kept { (payload : Stretch) → IsKept S.opened key.now payload self.old → IsText payload number text.now
+            → IsKept S.opened key.now payload self.new }
         ensures brings { OnOk result (Brings number self.old self.new opens.old opens.new) }
         ensures refused { IfErr result (λ e. (e ≡ OutOfMemory) ⊎ (chunk_of S.opened key.now number text.now ≡ Err e)) }
         ensures named { IfErr result IsChunkRefusal }
@@ -229,8 +238,8 @@ impl Cache {
         self.make_room(alloc);
         match open_chunk::<S>(alloc, opens, key, number, text) {
             Err(e) => Err(e),
-            Ok((chunk, last)) => {
-                self.put(alloc, number, chunk, last, true);
+            Ok((piece, last)) => {
+                self.put(alloc, number, piece, last, true);
                 Ok(())
             }
         }

@@ -1,4 +1,6 @@
 //! The payload of a file of age-encryption.org/v1: the plaintext in sealed chunks (STREAM).
+//!
+//! CONTRIBUTING.md has the ten files that a newcomer reads first, in order ("Ten files to read first, of the payload").
 #![tactic(auto)]
 
 mod access;

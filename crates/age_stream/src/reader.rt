@@ -1,11 +1,11 @@
 //! Reading a payload.
-ghost use Rattle.std.specs.Prelude.{◌≡◌, ◌+◌, ◌-◌, ◌/◌, ◌^◌, ◌<◌, ◌≤◌, ◌⊎◌, ◌&&◌, Option, Some, None, option_map, vec_items, IfSome, true, false, IsTrue, min, length, take, drop, MatchResult, IfOk, IfErr, OnOk, Ok, Err};
+ghost use Rattle.std.specs.Prelude.{◌≡◌, ◌+◌, ◌-◌, ◌^◌, ◌<◌, ◌≤◌, ◌⊎◌, ◌&&◌, Option, Some, None, option_map, vec_items, IfSome, true, false, IsTrue, min, length, take, drop, MatchResult, IfOk, IfErr, OnOk, Ok, Err};
 ghost use Rattle.std.proofs.Common.{arith};
 ghost use Rattle.age_error.specs.Bytes.{AreBytesOf};
 ghost use Rattle.age_error.specs.declared.io.Error.TheVariants.{OutOfMemory, Failed, AfterLast};
-ghost use Rattle.age_io.specs.Stretch.{nothing, whole};
-ghost use Rattle.age_io.specs.Reading.{Reads, Delivers, most_faults};
-ghost use Rattle.age_v1.specs.Payload.{chunk_nonce, payload};
+ghost use Rattle.age_io.specs.Reading.{Delivers, most_faults};
+ghost use Rattle.age_io.specs.Calls.{ReadsBy};
+ghost use Rattle.age_v1.specs.Payload.{chunk_nonce};
 ghost use Rattle.age_v1.specs.PayloadAnswers.{Gives};
 ghost use Rattle.age_v1.specs.DeliveredPayload.{allowed, chunk_of};
 ghost use Rattle.age_stream.specs.Keeping.{OwnOrInner, IsReadRefusal};
@@ -48,7 +48,8 @@ pub struct StreamReader<S: Suite, R: Read> {
     // Whether that chunk is held: it is the first of those that were opened.
     pub(crate) held: bool,
     pub(crate) cache: Cache,
-    // How many bytes were taken from the inner reader.
+    // How many bytes were taken from the inner reader: exactly so of one that tells its bytes, which has fewer than 2^63.
+    // Any other may have more, and the count stays at 2^64 - 1.
     pub(crate) taken: u64,
     pub(crate) failed: bool,
     // Whether a seek was made.
@@ -64,7 +65,7 @@ pub struct StreamReader<S: Suite, R: Read> {
     ghost unspent: { failed ≡ false → held ≡ true → R.faults inner < most_faults },
     ghost kept: { IsTrue (R.tells inner && R.steady inner) → IsKept S.opened key (payload_at (R.place inner) taken (R.content inner)) cache },
     ghost sound: { IsTrue (R.tells inner && R.steady inner) →
-        IsSound S.opened key failed held at cache.chunk.items cache.last sought number taken (R.place inner) (R.content inner) (R.rest inner) },
+        IsSound S.opened key failed held at cache.piece.items cache.last sought number taken (R.place inner) (R.content inner) (R.rest inner) },
 }
 
 impl<S: Suite, R: Read> Read for StreamReader<S, R> {
@@ -90,13 +91,13 @@ impl<S: Suite, R: Read> Read for StreamReader<S, R> {
     ghost faults_fit = { λ r. R.faults_fit r.inner };
 
     ghost spent = { λ r told is. stream_spent S.opened r.key (shorter S.seal_of S.opened S.cipher r.key r.key_bytes)
-        r.failed r.held r.at r.cache.chunk.items r.cache.last r.number (R.rest r.inner)
+        r.failed r.held r.at r.cache.piece.items r.cache.last r.number (R.rest r.inner)
         (λ good held. Prim.omega (arith, is, r.unspent good held)) (R.spent r.inner (and-left _ _ told) is) };
 
     ghost well = { λ r told well. both-true _ _ told well };
 
     ghost stands = { λ r told steady. stream_stands S.opened r.key (shorter S.seal_of S.opened S.cipher r.key r.key_bytes)
-        r.failed r.held r.at r.cache.chunk.items r.cache.last r.sought r.number r.taken (R.place r.inner) (R.content r.inner) (R.rest r.inner)
+        r.failed r.held r.at r.cache.piece.items r.cache.last r.sought r.number r.taken (R.place r.inner) (R.content r.inner) (R.rest r.inner)
         (R.are_bytes r.inner (and-left _ _ told)) r.offset (λ held. (r.chunk held).in_chunk) (r.sound told)
         (R.stands r.inner (and-left _ _ told) (and-right _ _ told)) (and-right _ _ steady) };
 
@@ -136,8 +137,7 @@ impl<S: Suite, R: Read> Read for StreamReader<S, R> {
     /// Of the opened chunks it has the one that it reads, and the one that was used last before (`chunks`).
     #[tactic(auto, using(crate::proofs::Holding::rest_failed, crate::proofs::Holding::fault_failed))]
     fn read(&mut self, buf: &mut [u8]) -> Result<usize, Error>
-        ensures reads { let reader = ⟦<StreamReader<S, R> as Read>⟧ in
-            Reads reader.tells reader.steady reader.content reader.place reader.rest reader.faults reader.refuses self.old self.new buf.new result }
+        ensures reads { ReadsBy ⟦<StreamReader<S, R> as Read>⟧ self.old self.new buf.new result }
         ensures gives { GivesPlaintext self.old self.new buf.old buf.new result }
         ensures refuses { RefusesPayload self.old self.new result }
         ensures leaves { LeavesPayload self.old self.new buf.old buf.new result }
@@ -173,6 +173,7 @@ impl<S: Suite, R: Read> StreamReader<S, R> {
         ensures made { IfOk result (IsReaderOf key inner) }
         ensures memory { IfErr result (λ e. e ≡ OutOfMemory) }
     {
+        // For the proof alone: these are bytes, each below 256.
         known_array(&key);
         let sealed = room_for(alloc, CHUNK)?;
         Ok(StreamReader {
@@ -227,8 +228,7 @@ impl<S: Suite, R: Read> StreamReader<S, R> {
     pub(crate) fn read_on(&mut self, buf: &mut [u8]) -> Result<usize, Error>
         requires good { self.old.failed ≡ false }
         requires some { 0 < length buf.old }
-        ensures reads { let reader = ⟦<StreamReader<S, R> as Read>⟧ in
-            Reads reader.tells reader.steady reader.content reader.place reader.rest reader.faults reader.refuses self.old self.new buf.new result }
+        ensures reads { ReadsBy ⟦<StreamReader<S, R> as Read>⟧ self.old self.new buf.new result }
         ensures keeps { KeepsPayload ⟦<R as Read>⟧ (stops_of self.old) self.old.inner self.old.taken self.new.inner self.new.taken result }
         ensures names { IfErr result (OwnOrInner ⟦<R as Read>⟧ IsReadRefusal self.old.inner) }
         ensures says { IfErr result (SaysWhy self.old self.new) }
@@ -251,13 +251,13 @@ impl<S: Suite, R: Read> StreamReader<S, R> {
         ensures yes { IsTrue result → IsAfterLast self.now }
         ensures no { result ≡ false → IsAfterLast self.now → ⊥ }
     {
-        self.held && self.cache.last && self.at == self.cache.chunk.len()
+        self.held && self.cache.last && self.at == self.cache.piece.len()
     }
 
     // Holds a byte of the chunk at the place, or the last chunk, which is empty.
     fn hold(&mut self) -> Result<(), Error>
         requires good { self.old.failed ≡ false }
-        requires more { self.old.held ≡ true → self.old.cache.last ≡ true → self.old.at < length self.old.cache.chunk.items }
+        requires more { self.old.held ≡ true → self.old.cache.last ≡ true → self.old.at < length self.old.cache.piece.items }
         ensures keeps { KeepsPayload ⟦<R as Read>⟧ (stops_of self.old) self.old.inner self.old.taken self.new.inner self.new.taken result }
         ensures names { IfErr result (OwnOrInner ⟦<R as Read>⟧ IsReadRefusal self.old.inner) }
         ensures says { IfErr result (λ e. RefusedBelow ⟦<R as Read>⟧ 65552 self.old.inner self.new.inner e ⊎ RefusesText self.old self.new e) }
@@ -276,14 +276,14 @@ impl<S: Suite, R: Read> StreamReader<S, R> {
     // After a middle chunk that was given whole the place is the front of the next.
     fn pass(&mut self)
         requires good { self.old.failed ≡ false }
-        requires more { self.old.held ≡ true → self.old.cache.last ≡ true → self.old.at < length self.old.cache.chunk.items }
+        requires more { self.old.held ≡ true → self.old.cache.last ≡ true → self.old.at < length self.old.cache.piece.items }
         ensures passes { PassesOn self.old self.new }
-        ensures left { self.new.held ≡ true → self.new.at < length self.new.cache.chunk.items }
+        ensures left { self.new.held ≡ true → self.new.at < length self.new.cache.piece.items }
         ensures holding { (IsHolding self.old → IsHolding self.new) × (IsHolding self.new → IsHolding self.old) }
         ensures spared { self.new.opens + spare self.new.held self.new.cache.last + self.old.number
             ≤ self.old.opens + spare self.old.held self.old.cache.last + self.new.number }
     {
-        if self.held && self.at == self.cache.chunk.len() {
+        if self.held && self.at == self.cache.piece.len() {
             self.number += 1;
             self.at = 0;
             self.held = false;
@@ -295,7 +295,7 @@ impl<S: Suite, R: Read> StreamReader<S, R> {
         requires good { self.old.failed ≡ false }
         requires held { self.old.held ≡ true }
         requires last { self.old.cache.last ≡ true }
-        requires given { self.old.at ≡ length self.old.cache.chunk.items }
+        requires given { self.old.at ≡ length self.old.cache.piece.items }
         ensures keeps { KeepsPayload ⟦<R as Read>⟧ (stops_of self.old) self.old.inner self.old.taken self.new.inner self.new.taken result }
         ensures names { IfErr result (OwnOrInner ⟦<R as Read>⟧ IsReadRefusal self.old.inner) }
         ensures says { IfErr result (λ e. RefusedBelow ⟦<R as Read>⟧ 1 self.old.inner self.new.inner e ⊎ RefusesMore self.old self.new e) }
@@ -343,7 +343,7 @@ impl<S: Suite, R: Read> StreamReader<S, R> {
             Err(e) => Err(e),
             Ok(()) => {
                 // Only where the inner reader has fewer bytes than a seek found.
-                if self.at > self.cache.chunk.len() {
+                if self.at > self.cache.piece.len() {
                     return Err(Error::Truncated);
                 }
                 self.held = true;
@@ -357,7 +357,7 @@ impl<S: Suite, R: Read> StreamReader<S, R> {
     fn give(&mut self, buf: &mut [u8]) -> usize
         requires good { self.old.failed ≡ false }
         requires held { self.old.held ≡ true }
-        ensures count { result ≡ min (length buf.old) (length self.old.cache.chunk.items - self.old.at) }
+        ensures count { result ≡ min (length buf.old) (length self.old.cache.piece.items - self.old.at) }
         ensures held { GivesHeld self.old self.new }
         ensures moves { place_of self.new ≡ place_of self.old + result }
         ensures beyond { drop result buf.new ≡ drop result buf.old }
@@ -367,8 +367,8 @@ impl<S: Suite, R: Read> StreamReader<S, R> {
             Gives S.seal_of self.old.key (payload_of self.old) (reader.place self.old) (length buf.old) (take result buf.new) }
         ensures uses { 0 < result → last_used self.new.cache ≡ Some self.old.number }
     {
-        let count = buf.len().min(self.cache.chunk.len() - self.at);
-        buf[..count].copy_from_slice(&self.cache.chunk[self.at..self.at + count]);
+        let count = buf.len().min(self.cache.piece.len() - self.at);
+        buf[..count].copy_from_slice(&self.cache.piece[self.at..self.at + count]);
         self.at += count;
         self.cache.used = true;
         count
@@ -408,6 +408,7 @@ pub(crate) fn open_as<S: Suite>(
     ensures length { IfOk result (λ o. IfSome o (λ v. length v.items + 16 ≡ length sealed.now)) }
     ensures opens { opens.new ≡ one_more opens.old }
 {
+    // For the proof alone: these are bytes, each below 256.
     known_array(key);
     known_bytes(sealed);
     S::open(alloc, opens, key, &nonce_of(number, last), sealed)

@@ -1,9 +1,10 @@
 //! Seeking in a payload.
-ghost use Rattle.std.specs.Prelude.{◌≡◌, ◌+◌, ◌-◌, ◌*◌, ◌/◌, ◌%◌, ◌^◌, ◌<◌, ◌≤◌, ◌&&◌, Option, Some, None, true, false, IsTrue, length, take, IfOk, IfErr, OnOk, Ok, Err};
+ghost use Rattle.std.specs.Prelude.{◌≡◌, ◌+◌, ◌-◌, ◌*◌, ◌/◌, ◌%◌, ◌^◌, ◌<◌, ◌≤◌, ◌&&◌, Option, Some, None, true, false, IsTrue, length, IfOk, IfErr, OnOk, Ok, Err};
 ghost use Rattle.age_error.specs.declared.io.Error.TheVariants.{OutOfMemory, BadEnd, BeforeStart};
 ghost use Rattle.age_io.specs.Stretch.{from_place};
-ghost use Rattle.age_io.specs.Cursor.{Seeks, OrTooLong};
+ghost use Rattle.age_io.specs.Cursor.{OrTooLong};
 ghost use Rattle.age_io.specs.CursorLemmas.{or_too_long_no_device};
+ghost use Rattle.age_io.specs.Calls.{SeeksBy};
 ghost use Rattle.age_v1.specs.Payload as Payload;
 ghost use Rattle.age_v1.specs.Payload.{final_chunk};
 ghost use Rattle.age_stream.specs.PrivateKeeping.{IsPayloadSeekRefusal, KeepsPayload};
@@ -78,7 +79,8 @@ impl<S: Suite, R: Seek> StreamReader<S, R> {
         requires start { IsTrue (R.tells self.old.inner && R.steady self.old.inner) → start ≡ R.place self.old.inner - self.old.taken }
         requires size { IsTrue (R.tells self.old.inner && R.steady self.old.inner) → size ≡ length (payload_of self.old).bytes }
         requires before { place + 16 * (place / 65536) + 16 < size }
-        ensures keeps { KeepsPayload ⟦<R as Read>⟧ (IsPayloadSeekRefusal R.seek_refuses) self.old.inner self.old.taken self.new.inner self.new.taken result }
+        ensures keeps { KeepsPayload ⟦<R as Read>⟧
+            (IsPayloadSeekRefusal R.seek_refuses) self.old.inner self.old.taken self.new.inner self.new.taken result }
         ensures same { (self.new.key ≡ self.old.key) × (self.new.sought ≡ true) × (self.new.opens ≡ self.old.opens) }
         ensures enters { OnOk result (Enters self.old self.new size place was_failed) }
         ensures refused { IfErr result (RefusesStep self.old self.new (λ _. ⊥)) }
@@ -122,7 +124,8 @@ impl<S: Suite, R: Seek> StreamReader<S, R> {
         requires stands { IsTrue (R.tells self.old.inner && R.steady self.old.inner) → (self.old.taken ≡ 65552 * number)
             × (R.rest self.old.inner ≡ from_place (65552 * number) (payload_of self.old)) }
         requires last { IsTrue (R.tells self.old.inner && R.steady self.old.inner) → IsLastChunk (length (payload_of self.old).bytes) number }
-        ensures keeps { KeepsPayload ⟦<R as Read>⟧ (IsPayloadSeekRefusal R.seek_refuses) self.old.inner self.old.taken self.new.inner self.new.taken result }
+        ensures keeps { KeepsPayload ⟦<R as Read>⟧
+            (IsPayloadSeekRefusal R.seek_refuses) self.old.inner self.old.taken self.new.inner self.new.taken result }
         ensures same { (self.new.key ≡ self.old.key) × (self.new.sought ≡ true) }
         ensures enters { OnOk result (EntersEnd self.old self.new number (length (payload_of self.old).bytes - 16 * (number + 1))) }
         ensures refused { IfErr result (RefusesStep self.old self.new (IsNoLast self.old number)) }
@@ -145,9 +148,9 @@ impl<S: Suite, R: Seek> StreamReader<S, R> {
         ) {
             Err(_) => Err(Error::OutOfMemory),
             Ok(None) => Err(Error::BadEnd),
-            Ok(Some(chunk)) => {
-                let len = chunk.len();
-                self.cache.put(self.alloc, number, chunk, true, len < PIECE);
+            Ok(Some(piece)) => {
+                let len = piece.len();
+                self.cache.put(self.alloc, number, piece, true, len < PIECE);
                 self.number = number;
                 self.at = len;
                 self.held = true;
@@ -174,7 +177,8 @@ impl<S: Suite, R: Seek> StreamReader<S, R> {
         requires last { IsLastChunk size (final_chunk size) }
         requires len { len + 16 * (final_chunk size + 1) ≡ size }
         requires limit { len ≤ 2 ^ 60 }
-        ensures keeps { KeepsPayload ⟦<R as Read>⟧ (IsPayloadSeekRefusal R.seek_refuses) self.old.inner self.old.taken self.new.inner self.new.taken result }
+        ensures keeps { KeepsPayload ⟦<R as Read>⟧
+            (IsPayloadSeekRefusal R.seek_refuses) self.old.inner self.old.taken self.new.inner self.new.taken result }
         ensures same { (self.new.key ≡ self.old.key) × (self.new.sought ≡ true) }
         ensures enters { OnOk result (EntersEnd self.old self.new (final_chunk size) len) }
         ensures refused { IfErr result (RefusesStep self.old self.new (IsNoLast self.old (final_chunk size))) }
@@ -188,7 +192,7 @@ impl<S: Suite, R: Seek> StreamReader<S, R> {
             match self.stand(start, size) {
                 Err(e) => Err(e),
                 Ok(()) => {
-                    self.at = self.cache.chunk.len();
+                    self.at = self.cache.piece.len();
                     self.cache.used = true;
                     self.failed = false;
                     Ok(())
@@ -202,7 +206,7 @@ impl<S: Suite, R: Seek> StreamReader<S, R> {
                     Err(e) => Err(e),
                     Ok(()) => {
                         self.number = number;
-                        self.at = self.cache.chunk.len();
+                        self.at = self.cache.piece.len();
                         self.cache.used = true;
                         self.held = true;
                         self.failed = false;
@@ -296,8 +300,7 @@ impl<S: Suite, R: Seek> Seek for StreamReader<S, R> {
     /// It opens at most one chunk, the last, and only for a target at the end (`opens`). The two that are kept stay; where the last
     /// has to be opened, the one that was used last stays beside it (`chunks`).
     fn seek(&mut self, to: SeekFrom) -> Result<u64, Error>
-        ensures seeks { let reader = ⟦<StreamReader<S, R> as Read>⟧ in
-            Seeks reader.tells reader.steady reader.content reader.place reader.rest reader.faults reader.refuses (OrTooLong R.seek_refuses) self.old self.new to result }
+        ensures seeks { SeeksBy ⟦<StreamReader<S, R> as Read>⟧ (OrTooLong R.seek_refuses) self.old self.new to result }
         ensures target { LeadsInPayload R.seek_refuses self.old self.new to result }
         ensures leaves { LeavesSought self.old self.new to result }
         ensures opens { OpensOnceAtMost self.old self.new to result }

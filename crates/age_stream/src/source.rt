@@ -36,7 +36,8 @@ fn fill_front<R: Read>(
     ensures keeps { KeepsReader ⟦<R as Read>⟧ (TriedAgain R.refuses) reader.old reader.new result }
     ensures most { OnOk result (R.faults reader.new < most_faults) × (filled.new ≤ asked) }
     ensures moves { IsTrue (R.tells reader.old) → R.place reader.new ≡ R.place reader.old + filled.new }
-    ensures took { IsTrue (R.tells reader.old) → OnOk result (TookFromInner asked (R.rest reader.old) (R.rest reader.new) (take filled.new room.new)) }
+    ensures took { IsTrue (R.tells reader.old)
+        → OnOk result (TookFromInner asked (R.rest reader.old) (R.rest reader.new) (take filled.new room.new)) }
     ensures cause { IsTrue (R.tells reader.old) → IfErr result (λ e. e ≢ OutOfMemory →
         IsQuiet (R.faults reader.old) (R.faults reader.new) → EndsEarly asked (R.rest reader.old)) }
     ensures turns { OnOk result (GivesTried ⟦<R as Read>⟧ asked (take filled.new room.new) reader.old reader.new) }
@@ -83,7 +84,8 @@ impl<S: Suite, R: Seek> StreamReader<S, R> {
         requires failed { self.old.failed ≡ true }
         ensures stays { Stays self.old self.new }
         ensures failed { (self.new.failed ≡ true) × (self.new.sought ≡ self.old.sought) }
-        ensures keeps { KeepsPayload ⟦<R as Read>⟧ (IsPayloadSeekRefusal R.seek_refuses) self.old.inner self.old.taken self.new.inner self.new.taken result }
+        ensures keeps { KeepsPayload ⟦<R as Read>⟧
+            (IsPayloadSeekRefusal R.seek_refuses) self.old.inner self.old.taken self.new.inner self.new.taken result }
         ensures found { IsTrue (R.tells self.old.inner && R.steady self.old.inner) → IfOk result (λ found.
             (found.0 ≡ R.place self.old.inner - self.old.taken) × (found.0 ≡ R.place self.new.inner - self.new.taken)
             × (found.1 ≡ length (payload_of self.old).bytes)) }
@@ -113,7 +115,8 @@ impl<S: Suite, R: Seek> StreamReader<S, R> {
         requires within { IsTrue (R.tells self.old.inner && R.steady self.old.inner) → place ≤ length (payload_of self.old).bytes }
         ensures stays { Stays self.old self.new }
         ensures failed { (self.new.failed ≡ true) × (self.new.sought ≡ self.old.sought) }
-        ensures keeps { KeepsPayload ⟦<R as Read>⟧ (IsPayloadSeekRefusal R.seek_refuses) self.old.inner self.old.taken self.new.inner self.new.taken result }
+        ensures keeps { KeepsPayload ⟦<R as Read>⟧
+            (IsPayloadSeekRefusal R.seek_refuses) self.old.inner self.old.taken self.new.inner self.new.taken result }
         ensures stands { OnOk result (IsPlaced self.old self.new place) }
         ensures start { IsTrue (R.tells self.old.inner && R.steady self.old.inner) → start ≡ R.place self.new.inner - self.new.taken }
         ensures refused { IfErr result (RefusesStep self.old self.new (λ _. ⊥)) }

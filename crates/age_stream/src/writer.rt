@@ -102,7 +102,8 @@ impl<S: Suite, W: Write> StreamWriter<S, W> {
         ensures roomy { held_len self.old < 65536 → IsOk result × (held_len self.new ≡ held_len self.old) × (self.new.inner ≡ self.old.inner) }
         ensures sent { IsTrue (W.tells self.old.inner) → OnOk result (Sent S.seal_of W.appended self.old [] self.new) }
         ensures front { IsTrue (W.tells self.old.inner) → OnErr result ((held_len self.old ≡ 65536)
-            × AppendsFront W.appended (S.seal_of self.old.key (chunk_nonce self.old.sealed false) self.old.held.items) self.old.inner self.new.inner) }
+            × AppendsFront W.appended (S.seal_of self.old.key (chunk_nonce self.old.sealed false) self.old.held.items)
+            self.old.inner self.new.inner) }
         ensures failed { self.new.failed ≡ self.old.failed }
         ensures inner { KeepsWriter W.tells W.faults (RefusesChunk W.refuses) self.old.inner self.new.inner result }
     {
@@ -254,7 +255,8 @@ impl<S: Suite, W: Write> StreamWriter<S, W> {
             IsTrue (writer.tells self.old) → Closes S.seal_of W.appended writer.appended self.old self.new result }
         ensures within { StaysWithin ⟦<StreamWriter<S, W> as Write>⟧.appended self.old result }
         ensures closes { ClosesWriter ⟦<W as Write>⟧ self.old self.new result }
-        ensures front { IsTrue (W.tells (inner_of self.old)) → AppendsFront W.appended (last_seal S.seal_of self.old) (inner_of self.old) (inner_of self.new) }
+        ensures front { IsTrue (W.tells (inner_of self.old))
+            → AppendsFront W.appended (last_seal S.seal_of self.old) (inner_of self.old) (inner_of self.new) }
     {
         if self.failed {
             return Err(Error::Failed);
@@ -289,7 +291,7 @@ impl<S: Suite, W: Write> StreamWriter<S, W> {
 }
 
 impl<S: Suite, W: Write + Drop> StreamWriter<S, W> {
-    ghost use Rattle.age_stream.specs.Writing.{Finishes, HandsBack, IsFailed, StaysWithin, inner_of};
+    ghost use Rattle.age_stream.specs.Writing.{Finishes, HandsBack, HasFailed, StaysWithin, inner_of};
 
     /// Seals what is held as the last chunk, writes it, and hands back the inner writer, which isn't flushed: `close`, and the inner writer.
     ///
@@ -301,7 +303,7 @@ impl<S: Suite, W: Write + Drop> StreamWriter<S, W> {
         ensures ok { let writer = ⟦<StreamWriter<S, W> as Write>⟧ in
             IsTrue (writer.tells self) → Finishes S.seal_of W.appended writer.appended self result }
         ensures within { StaysWithin ⟦<StreamWriter<S, W> as Write>⟧.appended self result }
-        ensures failed { IsFailed self → result ≡ Err Failed }
+        ensures failed { HasFailed self → result ≡ Err Failed }
         ensures why { IfErr result (⟦<StreamWriter<S, W> as Write>⟧.refuses self 0) }
         ensures hands_back { IfOk result (HandsBack ⟦<W as Write>⟧ self) }
     {

@@ -1,8 +1,9 @@
 //! `Write` for the writer of a payload.
-ghost use Rattle.std.specs.Prelude.{◌≡◌, ◌≢◌, ◌+◌, ◌^◌, ◌<◌, true, false, IsTrue, length, IfErr, OnOk, OnErr, Ok, Err};
+ghost use Rattle.std.specs.Prelude.{◌≡◌, ◌≢◌, ◌+◌, ◌<◌, true, false, IsTrue, length, IfErr, OnOk, OnErr, Ok, Err};
 ghost use Rattle.age_error.specs.declared.io.Error.TheVariants.{Failed, TooLong};
 ghost use Rattle.age_error.specs.Refusals.{IsInterruption};
-ghost use Rattle.age_io.specs.Writing.{Retried, Writes, WritesAll, Flushes};
+ghost use Rattle.age_io.specs.Writing.{Retried, WritesAll, Flushes};
+ghost use Rattle.age_io.specs.Calls.{WritesBy};
 
 use crate::sizes::{LONGEST_PLAINTEXT, PIECE};
 use crate::writer::StreamWriter;
@@ -14,7 +15,7 @@ use age_suite::suite::Suite;
 /// Only `finish` and `close` make its payload whole. A failed writer takes nothing more, and what it sent is a beginning of the payload of what it
 /// was given.
 impl<S: Suite, W: Write> Write for StreamWriter<S, W> {
-    ghost use Rattle.age_stream.specs.Writing.{Appended, Refused, FailsWriting, IsFailed, IsGood, inner_of, taken_len, SendsFront, TakesAll, TakesPiece};
+    ghost use Rattle.age_stream.specs.Writing.{Appended, Refused, FailsWriting, HasFailed, IsGood, inner_of, taken_len, SendsFront, TakesAll, TakesPiece};
     ghost use Rattle.age_stream.specs.WritingLemmas.{Appended-nothing, Appended-both, Refused-more};
 
     ghost tells = { λ w. W.tells (inner_of w) };
@@ -43,8 +44,7 @@ impl<S: Suite, W: Write> Write for StreamWriter<S, W> {
     /// Whatever it answers, the inner writer was given a beginning of the seals of the pieces that a byte follows, of what
     /// was held and these bytes (`sent`): so after a refusal too it has a beginning of a payload, and nothing else.
     fn write(&mut self, bytes: &[u8]) -> Result<usize, Error>
-        ensures writes { let writer = ⟦<StreamWriter<S, W> as Write>⟧ in
-            Writes writer.tells writer.faults writer.refuses writer.appended self.old self.new bytes.now result }
+        ensures writes { WritesBy ⟦<StreamWriter<S, W> as Write>⟧ self.old self.new bytes.now result }
         ensures takes { TakesAll self.old self.new bytes.now result }
         // Whatever it answers, what went out is a beginning of a payload.
         ensures sent { IsTrue (W.tells (inner_of self.old)) → SendsFront S.seal_of W.appended self.old bytes.now (inner_of self.new) }
@@ -77,8 +77,8 @@ impl<S: Suite, W: Write> Write for StreamWriter<S, W> {
         ensures inner { IsGood self.old → Flushes W.tells W.faults (Retried W.refuses) W.appended (inner_of self.old) (inner_of self.new) result }
         ensures counts { taken_len self.new ≡ taken_len self.old }
         ensures good { OnOk result (IsGood self.old × IsGood self.new) }
-        ensures fails { OnErr result (IsFailed self.new) }
-        ensures failed { IsFailed self.old → (result ≡ Err Failed) × (self.new ≡ self.old) }
+        ensures fails { OnErr result (HasFailed self.new) }
+        ensures failed { HasFailed self.old → (result ≡ Err Failed) × (self.new ≡ self.old) }
     {
         if self.failed {
             return Err(Error::Failed);

@@ -1,4 +1,5 @@
-//! Reads and seeks over devices that move a byte a call, fail once, or are interrupted, bare and through armor, judged by a plain cursor on the plaintext.
+//! Reads and seeks over devices that move a byte a call, fail once, or are
+//! interrupted, bare and through armor, judged by a plain cursor on the plaintext.
 
 use crate::fixtures::{reader_of, sealed};
 use age::armor::ArmoredReader;
@@ -227,7 +228,8 @@ fn sixteen_interruptions_before_each_call_change_nothing(rt: HostRuntime) -> Res
     Ok(())
 }
 
-// Whether over a device of which each call comes after 17 interruptions the first answer is the fault, and the others are the cursor's but for more of them.
+// Whether over a device of which each call comes after 17 interruptions the first
+// answer is the fault, and the others are the cursor's but for more of them.
 fn is_interrupted(alloc: Global, text: &Text<'_>) -> Result<bool, Fail> {
     let (interruptions, told) = text.faults(alloc, Script::interrupted(17, usize::MAX))?;
     Ok(interruptions > 16 && told.is_some() && told != Some(0))

@@ -79,7 +79,12 @@ first_one s raw first =
     elim (cases_Bool (length l % 4 == 0)) [
       | inr e ↦ rw e (first, eqb-false (length l % 4) 0 e)
       | inl e ↦ rw e (elim (cases_Bool (length l == 0 || nat_lt 64 (length l))) [
-        | inl f ↦ rw f (inr (first, eqb-true (length l % 4) 0 e, elim (or_cases _ _ f) [ inl z ↦ inl (eqb-true (length l) 0 z) | inr g ↦ inr (ltb-true 64 (length l) g) ]))
+        | inl f ↦ rw f (inr (
+          first,
+          eqb-true (length l % 4) 0
+              e,
+          elim (or_cases _ _ f) [ inl z ↦ inl (eqb-true (length l) 0 z) | inr g ↦ inr (ltb-true 64 (length l) g) ],
+        ))
         | inr f ↦ rw f (
             let p = or_parts (length l == 0) (nat_lt 64 (length l)) f in
             let some : 0 < length l = omega (arith, eqb-false (length l) 0 p.0) in
@@ -105,7 +110,8 @@ columns_one s raw u =
     ]
   where
     shorts : (s : Bool) → IsClear raw → line_columns raw ≢ end_marker →
-        IsLineVerdict s raw (if s then (if length (line_columns raw) == 64 then Refuses ShortLineInMiddle else Refuses NotWrappedAt64Chars) else first_verdict (line_columns raw))
+        IsLineVerdict s raw (if s then (if length (line_columns raw)
+        == 64 then Refuses ShortLineInMiddle else Refuses NotWrappedAt64Chars) else first_verdict (line_columns raw))
     shorts true clear other = elim (cases_Bool (length (line_columns raw) == 64)) [
       | inl e ↦ rw e (clear, other, refl, eqb-true (length (line_columns raw)) 64 e)
       | inr e ↦ rw e (inl (clear, other, refl, eqb-false (length (line_columns raw)) 64 e))
@@ -126,7 +132,8 @@ unfolding verdict
 passes_to s raw u = rw (is_utf8-from_IsUtf8 raw u) refl
 
 clear_to : (s : Bool) (raw : List ℕ) → IsClear raw → line_columns raw ≢ end_marker → verdict s raw
-    ≡ (if s then (if length (line_columns raw) == 64 then Refuses ShortLineInMiddle else Refuses NotWrappedAt64Chars) else first_verdict (line_columns raw))
+    ≡ (if s then (if length (line_columns raw) == 64 then Refuses ShortLineInMiddle else Refuses NotWrappedAt64Chars) else first_verdict
+    (line_columns raw))
 clear_to s raw h other = passes_to s raw h.0 ∙ rw (none_has 13 (line_columns raw) h.1, no_marker (line_columns raw) other) refl
 
 first_to : (s : Bool) (raw : List ℕ) → IsFirst s raw → verdict s raw ≡ first_verdict (line_columns raw)
@@ -151,15 +158,20 @@ pub verdict_is : (s : Bool) (raw : List ℕ) (v : LineVerdict) → IsLineVerdict
 unfolding verdict
 verdict_is s raw (Refuses InvalidUtf8) h = rw (false_from_ne_true (is_utf8 raw) (λ e. h (IsUtf8-from_is_utf8 raw e))) refl
 verdict_is s raw (Refuses LineContainsCr) h =
-    let some : list_any (λ c. c == 13) (line_columns raw) ≡ true = elim (cases_Bool (list_any (λ c. c == 13) (line_columns raw))) [ inl e ↦ e | inr e ↦ absurd (h.1 (has_none 13 (line_columns raw) e)) ] in
+    let some : list_any (λ c. c == 13) (line_columns raw) ≡ true =
+    elim (cases_Bool (list_any (λ c. c == 13) (line_columns raw))) [ inl e ↦ e | inr e ↦ absurd (h.1 (has_none 13 (line_columns raw) e)) ] in
     passes_to s raw h.0 ∙ rw some refl
 verdict_is s raw Ends h = passes_to s raw h.0.0 ∙ rw (none_has 13 (line_columns raw) h.0.1, (bytes_decides (line_columns raw) end_marker).1 h.1) refl
-verdict_is s raw (Refuses ShortLineInMiddle) (clear, other, after, whole) = clear_to s raw clear other ∙ rw (after, eq-eqb (length (line_columns raw)) 64 whole) refl
-verdict_is s raw (Refuses NotWrappedAt64Chars) (inl (clear, other, after, part)) = clear_to s raw clear other ∙ rw (after, ne_eqb (length (line_columns raw)) 64 part) refl
+verdict_is s raw (Refuses ShortLineInMiddle) (clear, other, after, whole) =
+    clear_to s raw clear other ∙ rw (after, eq-eqb (length (line_columns raw)) 64 whole) refl
+verdict_is s raw (Refuses NotWrappedAt64Chars) (inl (clear, other, after, part)) =
+    clear_to s raw clear other ∙ rw (after, ne_eqb (length (line_columns raw)) 64 part) refl
 verdict_is s raw (Refuses NotWrappedAt64Chars) (inr (first, four, long)) = first_to s raw first ∙ long_to (line_columns raw) four long
 verdict_is s raw (Refuses MissingPadding) h = first_to s raw h.0 ∙ rw (ne_eqb (length (line_columns raw) % 4) 0 h.1) refl
-verdict_is s raw (Refuses Base64) (first, four, some, fits, none) = first_to s raw first ∙ fits_to (line_columns raw) four some fits ∙ ap decoded_verdict (none_decoded (line_columns raw) none)
+verdict_is s raw (Refuses Base64) (first, four, some, fits, none) =
+    first_to s raw first ∙ fits_to (line_columns raw) four some fits ∙ ap decoded_verdict (none_decoded (line_columns raw) none)
 verdict_is s raw (Holds bytes) (first, some, fits, each, same) =
-    first_to s raw first ∙ fits_to (line_columns raw) (four_padded (line_columns raw) bytes same) some fits ∙ ap decoded_verdict (is_decoded (line_columns raw) bytes each same)
+    first_to s raw first ∙ fits_to (line_columns raw) (four_padded (line_columns raw) bytes same) some fits
+    ∙ ap decoded_verdict (is_decoded (line_columns raw) bytes each same)
 verdict_is s raw (Refuses InvalidBeginMarker) h = absurd h
 verdict_is s raw (Refuses TrailingGarbage) h = absurd h

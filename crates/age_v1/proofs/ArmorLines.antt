@@ -39,7 +39,8 @@ armor_end before after rest whole h some small a =
 
 pub armor_over : (before rest whole : List ℕ) → before ++ flat_map line (armor_lines rest) ≡ whole → length rest ≡ 0 → before ≡ whole
 unfolding armor_lines
-armor_over before rest whole h none = sym (append-nil before) ∙ ap (λ x. before ++ flat_map line (armor_lines x)) (sym (nil_from_length rest none)) ∙ h
+armor_over before rest whole h none = sym (append-nil before)
+    ∙ ap (λ x. before ++ flat_map line (armor_lines x)) (sym (nil_from_length rest none)) ∙ h
 
 pub armor_written : (bytes cols start first middle last : List ℕ) → start ≡ [] → cols ≡ padded_columns bytes → first ≡ start ++ line begin_marker
     → middle ≡ first ++ flat_map line (armor_lines cols) → last ≡ middle ++ line end_marker → last ≡ armor bytes
@@ -58,9 +59,11 @@ length_pieces : (count n : ℕ) (xs : List ℕ) → length (flat_map line (piece
 unfolding pieces_and_rest
 length_pieces zero n xs = ap length (append-nil (line xs)) ∙ length_line xs
 length_pieces (suc count) n xs =
-    let whole : length (line (take n xs) ++ flat_map line (pieces_and_rest count n (drop n xs))) ≡ length (line (take n xs)) + length (flat_map line (pieces_and_rest count n (drop n xs))) =
+    let whole : length (line (take n xs) ++ flat_map line (pieces_and_rest count n (drop n xs)))
+    ≡ length (line (take n xs)) + length (flat_map line (pieces_and_rest count n (drop n xs))) =
     length-append (line (take n xs)) (flat_map line (pieces_and_rest count n (drop n xs))) in
-    let parts : length (take n xs) + length (drop n xs) ≡ length xs = sym (length-append (take n xs) (drop n xs)) ∙ ap length (take-append-drop n xs) in
+    let parts : length (take n xs) + length (drop n xs) ≡ length xs =
+    sym (length-append (take n xs) (drop n xs)) ∙ ap length (take-append-drop n xs) in
     let rest : length (flat_map line (pieces_and_rest count n (drop n xs))) ≡ length (drop n xs) + suc count = length_pieces count n (drop n xs) in
     whole ∙ omega (arith, length_line (take n xs), parts, rest)
 
@@ -78,7 +81,8 @@ length_armor bytes =
     let lines = flat_map line (armor_lines (padded_columns bytes)) in
     let front : length (line begin_marker) ≡ 35 = refl in
     let end : length (line end_marker) ≡ 33 = refl in
-    let whole : length (line begin_marker ++ (lines ++ line end_marker)) ≡ length (line begin_marker) + length (lines ++ line end_marker) = length-append (line begin_marker) (lines ++ line end_marker) in
+    let whole : length (line begin_marker ++ (lines ++ line end_marker)) ≡ length (line begin_marker) + length (lines ++ line end_marker) =
+    length-append (line begin_marker) (lines ++ line end_marker) in
     let back : length (lines ++ line end_marker) ≡ length lines + length (line end_marker) = length-append lines (line end_marker) in
     let middle : length lines ≡ length (padded_columns bytes) + (length (padded_columns bytes) + 63) / 64 = length_lines (padded_columns bytes) in
     whole ∙ omega (arith, front, end, back, middle, length-padded_columns bytes)

@@ -23,8 +23,10 @@ begins_back xs text e =
 
 -- what follows the begin marker, where a line ending does
 after_ending : (k first rest : List ℕ) → begin_marker ++ k ≡ first ++ rest → IsEndedLine begin_marker first → (k ≡ 10 ∷ rest) ⊎ (k ≡ 13 ∷ 10 ∷ rest)
-after_ending k first rest e (inl h) = inl (append_cancel_left begin_marker k (10 ∷ rest) (e ∙ ap (λ f. f ++ rest) h ∙ append_assoc begin_marker (10 ∷ []) rest))
-after_ending k first rest e (inr h) = inr (append_cancel_left begin_marker k (13 ∷ 10 ∷ rest) (e ∙ ap (λ f. f ++ rest) h ∙ append_assoc begin_marker (13 ∷ 10 ∷ []) rest))
+after_ending k first rest e (inl h) = inl
+    (append_cancel_left begin_marker k (10 ∷ rest) (e ∙ ap (λ f. f ++ rest) h ∙ append_assoc begin_marker (10 ∷ []) rest))
+after_ending k first rest e (inr h) = inr
+    (append_cancel_left begin_marker k (13 ∷ 10 ∷ rest) (e ∙ ap (λ f. f ++ rest) h ∙ append_assoc begin_marker (13 ∷ 10 ∷ []) rest))
 
 -- ---- the shapes
 
@@ -76,7 +78,8 @@ shape_of text = elim (cases_lt (length text) 36) [
 
 -- ---- what each delivers
 
-pub early_delivers : (text : List ℕ) (ends_well : Bool) → length text < 36 → text_delivers text ends_well ≡ ends_in (at_end ends_well (Refused UnexpectedEof))
+pub early_delivers : (text : List ℕ) (ends_well : Bool) → length text < 36
+    → text_delivers text ends_well ≡ ends_in (at_end ends_well (Refused UnexpectedEof))
 unfolding text_delivers
 early_delivers text ends_well short = rw (lt-ltb (length text) 36 short) refl
 
@@ -91,7 +94,8 @@ plain_delivers text ends_well size plain =
     ] in
     rw (long, other) refl
 
-begun_delivers : (text k : List ℕ) (ends_well : Bool) → 36 ≤ length text → text ≡ begin_marker ++ k → text_delivers text ends_well ≡ after_marker k ends_well
+begun_delivers : (text k : List ℕ) (ends_well : Bool) → 36 ≤ length text → text ≡ begin_marker ++ k
+    → text_delivers text ends_well ≡ after_marker k ends_well
 unfolding text_delivers
 begun_delivers text k ends_well size whole =
     let long : nat_lt (length text) 36 ≡ false = le-ltb (length text) 36 size in
@@ -112,15 +116,18 @@ open_delivers k ends_well no_lf no_crlf =
     ] in
     rw (lf, crlf) refl
 
-pub open_marker_delivers : (text : List ℕ) (ends_well : Bool) → HasOpenMarker text → text_delivers text ends_well ≡ ends_in (Refused (Armor InvalidBeginMarker))
+pub open_marker_delivers : (text : List ℕ) (ends_well : Bool) → HasOpenMarker text
+    → text_delivers text ends_well ≡ ends_in (Refused (Armor InvalidBeginMarker))
 open_marker_delivers text ends_well p =
     let lf : (rest : List ℕ) → p.after ≢ 10 ∷ rest = λ rest e.
     p.unended (begin_marker ++ 10 ∷ []) rest (p.marker ∙ ap (λ y. begin_marker ++ y) e ∙ sym (append_assoc begin_marker (10 ∷ []) rest)) (inl refl) in
     let crlf : (rest : List ℕ) → p.after ≢ 13 ∷ 10 ∷ rest = λ rest e.
-    p.unended (begin_marker ++ 13 ∷ 10 ∷ []) rest (p.marker ∙ ap (λ y. begin_marker ++ y) e ∙ sym (append_assoc begin_marker (13 ∷ 10 ∷ []) rest)) (inr refl) in
+    p.unended (begin_marker ++ 13 ∷ 10 ∷ []) rest (p.marker ∙ ap (λ y. begin_marker ++ y) e ∙ sym (append_assoc begin_marker (13 ∷ 10 ∷ []) rest))
+    (inr refl) in
     begun_delivers text p.after ends_well p.size p.marker ∙ open_delivers p.after ends_well lf crlf
 
-line_delivers : (k first rest : List ℕ) (ends_well : Bool) → begin_marker ++ k ≡ first ++ rest → IsEndedLine begin_marker first → after_marker k ends_well ≡ section false (raw_lines rest) ends_well
+line_delivers : (k first rest : List ℕ) (ends_well : Bool) → begin_marker ++ k ≡ first ++ rest → IsEndedLine begin_marker first
+    → after_marker k ends_well ≡ section false (raw_lines rest) ends_well
 line_delivers k first rest ends_well e marker = elim (after_ending k first rest e marker) [
   | inl f ↦ ap (λ y. after_marker y ends_well) f
   | inr f ↦ ap (λ y. after_marker y ends_well) f

@@ -12,7 +12,8 @@ module _ {S X A : Type 0} (asks : S → X → Option A → S → Type 0) where
 
   singly_then : (xs : List X) (first : Option A) (between : S) (answer : Option A) (after : S)
       → ((s : S) → FirstOf (λ s x. FirstOf asks s (x ∷ [])) s xs answer after → FirstOf asks s xs answer after)
-      → UnlessAnswered (λ s. FirstOf (λ s x. FirstOf asks s (x ∷ [])) s xs) first between answer after → UnlessAnswered (λ s. FirstOf asks s xs) first between answer after
+      → UnlessAnswered (λ s. FirstOf (λ s x. FirstOf asks s (x ∷ [])) s xs) first between answer after
+      → UnlessAnswered (λ s. FirstOf asks s xs) first between answer after
   singly_then xs None between answer after more next = more between next
   singly_then xs (Some a) between answer after more next = next
 
@@ -22,8 +23,13 @@ module _ {S X A : Type 0} (asks : S → X → Option A → S → Type 0) where
   singly before [] answer after h = h
   singly before (x ∷ xs) answer after h =
       let (first, between, one, next) = h in
-      let (own, then, asked, ended) = one in
-      (first, between, one_asked before x own first then between asked ended, singly_then xs first between answer after (λ s more. singly s xs answer after more) next)
+      let (own, then, asked, ended) = one in (
+        first,
+        between,
+        one_asked before x own first then between asked ended,
+        singly_then xs first between answer after
+            (λ s more. singly s xs answer after more) next,
+      )
 
 -- of one who doesn't change, and answers to each item by itself
 module _ {S X A : Type 0} (asks : S → X → Option A → Type 0) where
@@ -35,7 +41,8 @@ module _ {S X A : Type 0} (asks : S → X → Option A → Type 0) where
 
   stays : (before : S) (xs : List X) (answer : Option A) (after : S) → FirstOf (Steady asks) before xs answer after → after ≡ before
   stays before [] answer after h = h.1
-  stays before (x ∷ xs) answer after (first, between, asked, next) = stays_on xs first between answer after (λ s. stays s xs answer after) next ∙ asked.1
+  stays before (x ∷ xs) answer after (first, between, asked, next) =
+      stays_on xs first between answer after (λ s. stays s xs answer after) next ∙ asked.1
 
   -- the one who is there afterwards is the same
   in_order : (before : S) (xs : List X) (answer : Option A) (after : S) → FirstOf (Steady asks) before xs answer after

@@ -50,7 +50,8 @@ module _ {I : Type 0} (asks : I → StanzaValue → UnwrapAnswer → I → Type 
       pub beside : OpensFirst recipient identity → AnswersBeside wraps (FirstOf asks) Strange recipient identity
       beside opens file_key wrapped before later answer after sixteen wraps_so strange asked =
           let (first, more, are, own) = opens file_key wrapped sixteen wraps_so in
-          let of_own : (answer : UnwrapAnswer) (after : I) → FirstOf asks identity (wrapped.stanzas ++ later) answer after → IsKeyOrWant file_key answer =
+          let of_own : (answer : UnwrapAnswer) (after : I) → FirstOf asks identity (wrapped.stanzas ++ later) answer after
+          → IsKeyOrWant file_key answer =
           λ a t h.
           let (one, between, says, next) = rw are at h in
           first_is file_key (more ++ later) one a between t (own one between says) next in

@@ -87,7 +87,8 @@ end_delivers s t (inr (ended, space, e, h, spaces)) =
 prepend_step : (b rest x : List ℕ) → b ++ rest ≡ x → outcome_after b (record { bytes = rest; ending = Clean }) ≡ record { bytes = x; ending = Clean }
 prepend_step b rest x e = ap (λ y. let o : Outcome = record { bytes = y; ending = Clean } in o) e
 
-pub section_delivers : (fuel : ℕ) (x front end : List ℕ) → length x ≤ fuel → AreBytes x → AreEndedLines (armor_lines (padded_columns x)) front → IsArmorEnd end →
+pub section_delivers : (fuel : ℕ) (x front end : List ℕ) → length x ≤ fuel → AreBytes x → AreEndedLines (armor_lines (padded_columns x)) front
+    → IsArmorEnd end →
     section false (raw_lines (front ++ end)) true ≡ record { bytes = x; ending = Clean }
 section_delivers zero x front end small h lines is_end =
     let none : x ≡ [] = nil_from_length x (omega arith) in
@@ -105,7 +106,16 @@ section_delivers (suc fuel) x front end small h lines is_end = elim (cases_lt 48
       let ih = section_delivers fuel (drop 48 x) split.1 end (rw length-drop (omega arith)) back_bytes split.4 is_end in
       let good = good_line (take 48 x) split.0 front_bytes (omega (arith, size)) (omega (arith, size)) split.3 in
       let lf = Lacks_padded_columns 10 (omega arith) (take 48 x) front_bytes in
-      rw (split.2, append_assoc split.0 split.1 end, split_raw (padded_columns (take 48 x)) split.0 (split.1 ++ end) lf split.3, good.0, good.1, full_not_short (take 48 x) front_bytes size, ih)
+      rw (
+        split.2,
+        append_assoc split.0 split.1 end,
+        split_raw (padded_columns (take 48 x)) split.0
+            (split.1 ++ end) lf split.3,
+        good.0,
+        good.1,
+        full_not_short (take 48 x) front_bytes size,
+        ih,
+      )
       (prepend_step (take 48 x) (drop 48 x) x parts)
   | inr short ↦ elim (cases_lt 0 (length x)) [
     | inl some ↦
@@ -114,7 +124,15 @@ section_delivers (suc fuel) x front end small h lines is_end = elim (cases_lt 48
         let none : split.1 ≡ [] = split.4 in
         let good = good_line x split.0 h some short split.3 in
         let lf = Lacks_padded_columns 10 (omega arith) x h in
-        rw (split.2, none, append-nil, split_raw (padded_columns x) split.0 end lf split.3, good.0, end_delivers (is_short (line_columns split.0)) end is_end)
+        rw (
+          split.2,
+          none,
+          append-nil,
+          split_raw (padded_columns x) split.0 end lf split.3,
+          good.0,
+          end_delivers
+              (is_short (line_columns split.0)) end is_end,
+        )
         (prepend_step x [] x (append-nil x))
     | inr nothing ↦
         let none : x ≡ [] = nil_from_length x (omega arith) in

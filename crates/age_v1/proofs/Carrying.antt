@@ -16,7 +16,8 @@ ended_lines [] = refl
 ended_lines (l ∷ ls) = (line l, flat_map line ls, refl, inl refl, ended_lines ls)
 
 -- these lines with LF or CRLF, and the end marker as it may end
-pub ended_carries : (bytes front end : List ℕ) → AreBytes bytes → AreEndedLines (begin_marker ∷ armor_lines (padded_columns bytes)) front → IsArmorEnd end → Carries (front ++ end) bytes
+pub ended_carries : (bytes front end : List ℕ) → AreBytes bytes → AreEndedLines (begin_marker ∷ armor_lines (padded_columns bytes)) front
+    → IsArmorEnd end → Carries (front ++ end) bytes
 ended_carries bytes front end h lines ends = record {
   each = h;
   way = inl (record { front = front; end = end; whole = refl; lines = lines; ends = ends });
@@ -29,7 +30,8 @@ armor_carries bytes h =
     let whole : flat_map line ls ++ line end_marker ≡ line begin_marker ++ (flat_map line (armor_lines (padded_columns bytes)) ++ line end_marker) =
     append_assoc (line begin_marker) (flat_map line (armor_lines (padded_columns bytes))) (line end_marker) in
     subst (λ text. Carries text bytes) whole
-    (ended_carries bytes (flat_map line ls) (line end_marker) h (ended_lines ls) (inr (line end_marker, [], sym (append-nil (line end_marker)), inl refl, tt)))
+    (ended_carries bytes (flat_map line ls) (line end_marker) h (ended_lines ls)
+    (inr (line end_marker, [], sym (append-nil (line end_marker)), inl refl, tt)))
 
 -- ---- at most one
 
@@ -96,21 +98,25 @@ same_lines : (ls ms : List (List ℕ)) (a b u v u' v' : List ℕ) → AreLines l
 same_lines [] [] a b u v u' v' hl hm ha hb eu ev e = refl
 same_lines [] (m ∷ ms) a b u v u' v' hl hm ha (first, rest, parts, here, more) eu ev e =
     let f = up_to_feed m first here in
-    let g : f.0 ++ 10 ∷ (rest ++ v) ≡ 45 ∷ u' = sym (regroup f.0 rest v) ∙ ap (λ x. (x ++ rest) ++ v) (sym f.1) ∙ ap (λ x. x ++ v) (sym parts) ∙ sym e ∙ ap (λ x. x ++ u) ha ∙ eu in
+    let g : f.0 ++ 10 ∷ (rest ++ v) ≡ 45 ∷ u' =
+    sym (regroup f.0 rest v) ∙ ap (λ x. (x ++ rest) ++ v) (sym f.1) ∙ ap (λ x. x ++ v) (sym parts) ∙ sym e ∙ ap (λ x. x ++ u) ha ∙ eu in
     absurd (no_hyphen m f.0 hm.hyphens.0 f.2 (rest ++ v) u' g)
 same_lines (l ∷ ls) [] a b u v u' v' hl hm (first, rest, parts, here, more) hb eu ev e =
     let f = up_to_feed l first here in
-    let g : f.0 ++ 10 ∷ (rest ++ u) ≡ 45 ∷ v' = sym (regroup f.0 rest u) ∙ ap (λ x. (x ++ rest) ++ u) (sym f.1) ∙ ap (λ x. x ++ u) (sym parts) ∙ e ∙ ap (λ x. x ++ v) hb ∙ ev in
+    let g : f.0 ++ 10 ∷ (rest ++ u) ≡ 45 ∷ v' =
+    sym (regroup f.0 rest u) ∙ ap (λ x. (x ++ rest) ++ u) (sym f.1) ∙ ap (λ x. x ++ u) (sym parts) ∙ e ∙ ap (λ x. x ++ v) hb ∙ ev in
     absurd (no_hyphen l f.0 hl.hyphens.0 f.2 (rest ++ u) v' g)
 same_lines (l ∷ ls) (m ∷ ms) a b u v u' v' hl hm (first, rest, parts, here, more) (first', rest', parts', here', more') eu ev e =
     let f = up_to_feed l first here in
     let g = up_to_feed m first' here' in
-    let h : f.0 ++ 10 ∷ (rest ++ u) ≡ g.0 ++ 10 ∷ (rest' ++ v) = sym (regroup f.0 rest u) ∙ ap (λ x. (x ++ rest) ++ u) (sym f.1) ∙ ap (λ x. x ++ u) (sym parts) ∙ e
+    let h : f.0 ++ 10 ∷ (rest ++ u) ≡ g.0 ++ 10 ∷ (rest' ++ v) =
+    sym (regroup f.0 rest u) ∙ ap (λ x. (x ++ rest) ++ u) (sym f.1) ∙ ap (λ x. x ++ u) (sym parts) ∙ e
     ∙ ap (λ x. x ++ v) parts' ∙ ap (λ x. (x ++ rest') ++ v) g.1 ∙ regroup g.0 rest' v in
     let s = split_at 10 f.0 g.0 (rest ++ u) (rest' ++ v) (lacks_feed l f.0 hl.feeds.0 f.2) (lacks_feed m g.0 hm.feeds.0 g.2) h in
     let one : l ≡ m = same_line l m f.0 g.0 hl.returns.0 hm.returns.0 f.2 g.2 s.0 in
     let others : ls ≡ ms = same_lines ls ms rest rest' u v u' v'
-    (record { feeds = hl.feeds.1; returns = hl.returns.1; hyphens = hl.hyphens.1 }) (record { feeds = hm.feeds.1; returns = hm.returns.1; hyphens = hm.hyphens.1 }) more more' eu ev s.1 in
+    (record { feeds = hl.feeds.1; returns = hl.returns.1; hyphens = hl.hyphens.1 })
+    (record { feeds = hm.feeds.1; returns = hm.returns.1; hyphens = hm.hyphens.1 }) more more' eu ev s.1 in
     ap (λ x. x ∷ ls) one ∙ ap (λ xs. m ∷ xs) others
 
 end_start : (t : List ℕ) → IsArmorEnd t → (rest : List ℕ) × (t ≡ 45 ∷ rest)
@@ -134,12 +140,15 @@ one_armored t x y hx hy p q =
     let (first', rest', parts', here', more') = q.lines in
     let f = up_to_feed begin_marker first here in
     let g = up_to_feed begin_marker first' here' in
-    let h : f.0 ++ 10 ∷ (rest ++ p.end) ≡ g.0 ++ 10 ∷ (rest' ++ q.end) = sym (regroup f.0 rest p.end) ∙ ap (λ z. (z ++ rest) ++ p.end) (sym f.1) ∙ ap (λ z. z ++ p.end) (sym parts) ∙ sym p.whole
+    let h : f.0 ++ 10 ∷ (rest ++ p.end) ≡ g.0 ++ 10 ∷ (rest' ++ q.end) =
+    sym (regroup f.0 rest p.end) ∙ ap (λ z. (z ++ rest) ++ p.end) (sym f.1) ∙ ap (λ z. z ++ p.end) (sym parts) ∙ sym p.whole
     ∙ q.whole ∙ ap (λ z. z ++ q.end) parts' ∙ ap (λ z. (z ++ rest') ++ q.end) g.1 ∙ regroup g.0 rest' q.end in
-    let s = split_at 10 f.0 g.0 (rest ++ p.end) (rest' ++ q.end) (lacks_feed begin_marker f.0 begin_lacks f.2) (lacks_feed begin_marker g.0 begin_lacks g.2) h in
+    let s = split_at 10 f.0 g.0 (rest ++ p.end) (rest' ++ q.end) (lacks_feed begin_marker f.0 begin_lacks f.2)
+    (lacks_feed begin_marker g.0 begin_lacks g.2) h in
     let u = end_start p.end p.ends in
     let v = end_start q.end q.ends in
-    let lines = same_lines (armor_lines (padded_columns x)) (armor_lines (padded_columns y)) rest rest' p.end q.end u.0 v.0 (good_lines x hx) (good_lines y hy) more more' u.1 v.1 s.1 in
+    let lines = same_lines (armor_lines (padded_columns x)) (armor_lines (padded_columns y)) rest rest' p.end q.end u.0 v.0 (good_lines x hx)
+    (good_lines y hy) more more' u.1 v.1 s.1 in
     padded_columns_same x y hx hy (sym (lines_join (padded_columns x)) ∙ ap concat lines ∙ lines_join (padded_columns y))
 
 armored_begins : (t x : List ℕ) → CarriesArmored t x → (rest : List ℕ) × (t ≡ begin_marker ++ rest)

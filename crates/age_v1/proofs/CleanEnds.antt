@@ -66,7 +66,8 @@ good_back s b raw x text (first, some, fits, each, same) ended back = record {
   front = raw ++ back.front;
   end = back.end;
   whole = ap (λ y. raw ++ y) back.whole ∙ sym (append_assoc raw back.front back.end);
-  lines = subst (λ ls. AreEndedLines ls (raw ++ back.front)) (sym joined) (raw, back.front, refl, subst (λ l. IsEndedLine l raw) same ended, back.lines);
+  lines = subst (λ ls. AreEndedLines ls (raw ++ back.front)) (sym joined)
+      (raw, back.front, refl, subst (λ l. IsEndedLine l raw) same ended, back.lines);
   ends = back.ends;
   each = All-append (λ d. d < 2 ^ 8) b x each back.each;
   none = λ e. absurd (true≢false (sym e ∙ first.2));
@@ -82,12 +83,14 @@ good_back s b raw x text (first, some, fits, each, same) ended back = record {
     joined = elim (cases_Bool (is_short (line_columns raw))) [
       | inl e ↦
           let nothing : x ≡ [] = back.none e in
-          rw (nothing, append-nil, lines_nil) (lines_one b (omega (arith, length-padded_columns b, filled)) (omega (arith, length-padded_columns b, size)))
+          rw (nothing, append-nil, lines_nil) (lines_one b (omega (arith, length-padded_columns b, filled))
+          (omega (arith, length-padded_columns b, size)))
       | inr e ↦ lines_more b x (not_short_full b size (rw same at e))
     ]
 
 -- the end marker's line, and then white space
-end_back : (s : Bool) (raw rest : List ℕ) → IsFirstLine (raw ++ rest) raw rest → line_columns raw ≡ end_marker → trailing rest true ≡ Clean → IsArmorEnd (raw ++ rest)
+end_back : (s : Bool) (raw rest : List ℕ) → IsFirstLine (raw ++ rest) raw rest → line_columns raw ≡ end_marker → trailing rest true ≡ Clean
+    → IsArmorEnd (raw ++ rest)
 end_back s raw rest line marker clean = elim line.stops [
   | inl (k, e, lacks) ↦ inr (raw, rest, refl, subst (λ l. IsEndedLine l raw) marker (ended_line raw k e), spaces_back rest clean)
   | inr (lacks, over) ↦ inl (rw (over, append-nil) (sym (columns_none raw lacks) ∙ marker))

@@ -32,7 +32,8 @@ all_bytes (x ∷ b) h =
     let below : x < 2 ^ 8 = let lt = ltb-true x 256 (and_parts _ _ h).0 in omega (arith, lt) in
     All-cons (λ x. x < 2 ^ 8) x b below (all_bytes b (and_parts _ _ h).1)
 
-checked : (l c b : List ℕ) (t : Bool) → (list_all (λ x. nat_lt x 256) c && bytes_eq l (padded_columns c)) ≡ t → (if t then Some c else None) ≡ Some b → AreBytes b × (l ≡ padded_columns b)
+checked : (l c b : List ℕ) (t : Bool) → (list_all (λ x. nat_lt x 256) c && bytes_eq l (padded_columns c)) ≡ t
+    → (if t then Some c else None) ≡ Some b → AreBytes b × (l ≡ padded_columns b)
 checked l c b true t e =
     let same : c ≡ b = cc e in
     let parts = and_parts _ _ t in
@@ -60,7 +61,8 @@ ends_small : (n : ℕ) → IsSmall n Ends
 unfolding IsSmall
 ends_small n b p = cc p
 
-by_decoded : (l : List ℕ) (o : Option (List ℕ)) → ((b : List ℕ) → o ≡ Some b → AreBytes b × (length b ≤ length l)) → IsSmall (length l) (decoded_verdict o)
+by_decoded : (l : List ℕ) (o : Option (List ℕ)) → ((b : List ℕ) → o ≡ Some b → AreBytes b × (length b ≤ length l))
+    → IsSmall (length l) (decoded_verdict o)
 unfolding IsSmall
 by_decoded l None h b p = cc p
 by_decoded l (Some c) h b p = let same : c ≡ b = cc p in h b (ap (λ x. Some x) same)
@@ -89,12 +91,14 @@ length_if false xs ys h = omega arith
 
 pub length_line_columns : (raw : List ℕ) → length (line_columns raw) ≤ length raw
 length_line_columns raw =
-    let a : length (without_last 13 (but_last raw)) ≤ length (but_last raw) = length_if (last_is 13 (but_last raw)) (but_last (but_last raw)) (but_last raw) (length_but_last (but_last raw)) in
+    let a : length (without_last 13 (but_last raw)) ≤ length (but_last raw) =
+    length_if (last_is 13 (but_last raw)) (but_last (but_last raw)) (but_last raw) (length_but_last (but_last raw)) in
     length_if (last_is 10 raw) (without_last 13 (but_last raw)) raw (omega (arith, a, length_but_last raw))
 
 verdict_small : (s : Bool) (raw : List ℕ) → IsSmall (length (line_columns raw)) (verdict s raw)
 unfolding verdict
-verdict_small s raw = if-either (IsSmall (length (line_columns raw))) (is_utf8 raw) _ _ (columns_small s (line_columns raw)) (refuses_small _ InvalidUtf8)
+verdict_small s raw = if-either (IsSmall (length (line_columns raw))) (is_utf8 raw) _ _ (columns_small s (line_columns raw))
+    (refuses_small _ InvalidUtf8)
 
 -- ---- lines
 
@@ -126,7 +130,8 @@ section_within (raw ∷ more) s w =
     if-either (IsWithin (length (concat (raw ∷ more)))) (w || last_is 10 raw) _ _
     (more_within (length (line_columns raw) + length (concat more)) (length (concat (raw ∷ more))) _
     (omega (arith, length-append raw (concat more), length_line_columns raw))
-    (line_within (verdict s raw) (length (line_columns raw)) (length (concat more)) _ _ (verdict_small s raw) (section_within more (is_short (line_columns raw)) w)))
+    (line_within (verdict s raw) (length (line_columns raw)) (length (concat more)) _ _ (verdict_small s raw)
+    (section_within more (is_short (line_columns raw)) w)))
     (ends_within _ InnerFault)
 
 concat_push : (c : ℕ) (ls : List (List ℕ)) → concat (push_front c ls) ≡ c ∷ concat ls
@@ -135,7 +140,8 @@ concat_push c (l ∷ ls) = refl
 
 pub concat_raw : (text : List ℕ) → concat (raw_lines text) ≡ text
 concat_raw [] = refl
-concat_raw (c ∷ text) = if-either (λ ls. concat ls ≡ c ∷ text) (c == 10) _ _ (ap (λ l. c ∷ l) (concat_raw text)) (concat_push c (raw_lines text) ∙ ap (λ l. c ∷ l) (concat_raw text))
+concat_raw (c ∷ text) = if-either (λ ls. concat ls ≡ c ∷ text) (c == 10) _ _ (ap (λ l. c ∷ l) (concat_raw text))
+    (concat_push c (raw_lines text) ∙ ap (λ l. c ∷ l) (concat_raw text))
 
 lines_within : (text : List ℕ) (s w : Bool) → IsWithin (length text) (section s (raw_lines text) w)
 lines_within text s w = rw concat_raw at (section_within (raw_lines text) s w)
@@ -146,9 +152,11 @@ delivered_within text w h =
     if-either (IsWithin (length text)) (nat_lt (length text) 36) _ _ (ends_within (length text) (at_end w (Refused UnexpectedEof)))
     (if-either (IsWithin (length text)) (starts_with nat_eq text begin_marker) _ _
     (if-either (IsWithin (length text)) (starts_with nat_eq (drop 34 text) (10 ∷ [])) _ _
-    (more_within (length (drop 1 (drop 34 text))) (length text) (section false (raw_lines (drop 1 (drop 34 text))) w) (omega (arith, length-drop 1 (drop 34 text), length-drop 34 text)) (lines_within (drop 1 (drop 34 text)) false w))
+    (more_within (length (drop 1 (drop 34 text))) (length text) (section false (raw_lines (drop 1 (drop 34 text))) w)
+    (omega (arith, length-drop 1 (drop 34 text), length-drop 34 text)) (lines_within (drop 1 (drop 34 text)) false w))
     (if-either (IsWithin (length text)) (starts_with nat_eq (drop 34 text) (13 ∷ 10 ∷ [])) _ _
-    (more_within (length (drop 2 (drop 34 text))) (length text) (section false (raw_lines (drop 2 (drop 34 text))) w) (omega (arith, length-drop 2 (drop 34 text), length-drop 34 text)) (lines_within (drop 2 (drop 34 text)) false w))
+    (more_within (length (drop 2 (drop 34 text))) (length text) (section false (raw_lines (drop 2 (drop 34 text))) w)
+    (omega (arith, length-drop 2 (drop 34 text), length-drop 34 text)) (lines_within (drop 2 (drop 34 text)) false w))
     (ends_within (length text) (Refused (Armor InvalidBeginMarker)))))
     (h, omega arith))
 
@@ -160,10 +168,16 @@ pub content_bytes : (content : Stretch) (origin : ℕ) → AreBytes content.byte
 unfolding IsWithin
 content_bytes content origin h = (delivered_within (drop origin content.bytes) content.ends_well (All-drop (λ x. x < 2 ^ 8) origin content.bytes h)).0
 
-pub content_short : (content : Stretch) (origin : ℕ) → AreBytes content.bytes → length content.bytes < 2 ^ 63 → length (content_of content origin).bytes < 2 ^ 63
+pub content_short : (content : Stretch) (origin : ℕ) → AreBytes content.bytes → length content.bytes < 2 ^ 63
+    → length (content_of content origin).bytes < 2 ^ 63
 unfolding IsWithin
 content_short content origin h short =
-    omega (arith, short, length-drop origin content.bytes, (delivered_within (drop origin content.bytes) content.ends_well (All-drop (λ x. x < 2 ^ 8) origin content.bytes h)).1)
+    omega (
+      arith,
+      short,
+      length-drop origin content.bytes,
+      (delivered_within (drop origin content.bytes) content.ends_well (All-drop (λ x. x < 2 ^ 8) origin content.bytes h)).1,
+    )
 
 -- ---- standing in a content
 

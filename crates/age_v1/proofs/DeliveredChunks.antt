@@ -11,7 +11,8 @@ module _ (opened : List ℕ → List ℕ → List ℕ → Option (List ℕ)) (ke
   -- a full chunk is at the front
   pub delivered-full : (number : ℕ) (text more : List ℕ) (ends_well : Bool) → length text ≡ 65552 →
       delivers opened key (length (text ++ more) / 65552) number (text ++ more) ends_well
-      ≡ after_chunk (delivers opened key (length more / 65552) (suc number) more ends_well) (after_last more ends_well) (chunk_of opened key number text)
+      ≡ after_chunk (delivers opened key (length more / 65552) (suc number) more ends_well) (after_last more ends_well)
+      (chunk_of opened key number text)
   unfolding delivers
   delivered-full number text more ends_well full =
       let count : length (text ++ more) / 65552 ≡ suc (length more / 65552) = simp length-append (omega arith) in
@@ -19,19 +20,22 @@ module _ (opened : List ℕ → List ℕ → List ℕ → Option (List ℕ)) (ke
 
   -- less than a full chunk is left
   pub delivered-short : (number : ℕ) (text : List ℕ) (ends_well : Bool) → length text < 65552 →
-      delivers opened key (length text / 65552) number text ends_well ≡ cond ends_well (after_chunk nothing (after_last [] true) (chunk_of opened key number text)) nothing
+      delivers opened key (length text / 65552) number text ends_well
+      ≡ cond ends_well (after_chunk nothing (after_last [] true) (chunk_of opened key number text)) nothing
   unfolding delivers
   delivered-short number text ends_well short =
       let none : length text / 65552 ≡ 0 = omega arith in
       rw none refl
 
-  after_chunk-by : (middle last_rest : Stretch) (plain : List ℕ) (last : Bool) → after_chunk middle last_rest (Ok (plain, last)) ≡ prepend plain (cond last last_rest middle)
+  after_chunk-by : (middle last_rest : Stretch) (plain : List ℕ) (last : Bool)
+      → after_chunk middle last_rest (Ok (plain, last)) ≡ prepend plain (cond last last_rest middle)
   after_chunk-by middle last_rest plain true = refl
   after_chunk-by middle last_rest plain false = refl
 
   -- the chunk at the front, and what the bytes after it deliver
   pub delivered-chunk : (number : ℕ) (text more : List ℕ) (ends_well : Bool) (plain : List ℕ) (last : Bool) → length text ≤ 65552 →
-      (length text < 65552 → (more ≡ []) × (ends_well ≡ true)) → (length text < 65552 → last ≡ true) → chunk_of opened key number text ≡ Ok (plain, last) →
+      (length text < 65552 → (more ≡ []) × (ends_well ≡ true)) → (length text < 65552 → last ≡ true)
+      → chunk_of opened key number text ≡ Ok (plain, last) →
       delivers opened key (length (text ++ more) / 65552) number (text ++ more) ends_well
       ≡ prepend plain (cond last (after_last more ends_well) (delivers opened key (length more / 65552) (suc number) more ends_well))
   delivered-chunk number text more ends_well plain last most ended short is = elim (cases_lt (length text) 65552) [

@@ -18,7 +18,8 @@ no-bytes : AreBytes []
 no-bytes = All-nil (λ x. x < 2 ^ 8)
 
 module _ (opened : List ℕ → List ℕ → List ℕ → Option (List ℕ)) (key : List ℕ) (law : Shorter opened key) (bytes_law : OpensBytes opened key) where
-  after-fits : (v : Result Chunk Error) (number : ℕ) (text : List ℕ) (n : ℕ) (middle last_one : Stretch) → AreBytes text → chunk_of opened key number text ≡ v →
+  after-fits : (v : Result Chunk Error) (number : ℕ) (text : List ℕ) (n : ℕ) (middle last_one : Stretch) → AreBytes text
+      → chunk_of opened key number text ≡ v →
       Fits middle n → Fits last_one n → Fits (after_chunk middle last_one v) (length text + n)
   after-fits (Err e) number text n middle last_one bytes is m l = record { bytes = no-bytes; most = omega arith }
   after-fits (Ok (plain, true)) number text n middle last_one bytes is m l =
@@ -50,7 +51,8 @@ module _ (opened : List ℕ → List ℕ → List ℕ → Option (List ℕ)) (ke
   unfolding delivers
   delivers-fits zero number bytes w are = cond-fits w _ (length bytes)
       (more-fits _ (length bytes + 0) (length bytes) (omega arith)
-      (after-fits (chunk_of opened key number bytes) number bytes 0 nothing (after_last [] true) are refl (none-fits nothing 0 refl) (none-fits (after_last [] true) 0 refl)))
+      (after-fits (chunk_of opened key number bytes) number bytes 0 nothing (after_last [] true) are refl (none-fits nothing 0 refl)
+      (none-fits (after_last [] true) 0 refl)))
   delivers-fits (suc full) number bytes w are =
       let more = drop 65552 bytes in
       let text = take 65552 bytes in
@@ -62,6 +64,12 @@ module _ (opened : List ℕ → List ℕ → List ℕ → Option (List ℕ)) (ke
   pub delivered-bytes : (number n : ℕ) (s : Stretch) → AreBytes s.bytes → AreBytes (payload_delivers opened key number (from_place n s)).bytes
   delivered-bytes number n s are = (delivers-fits _ number (drop n s.bytes) s.ends_well (All-drop (λ x. x < 2 ^ 8) n s.bytes are)).bytes
 
-  pub delivered-short : (number n : ℕ) (s : Stretch) → AreBytes s.bytes → length s.bytes < 2 ^ 63 → length (payload_delivers opened key number (from_place n s)).bytes < 2 ^ 63
+  pub delivered-short : (number n : ℕ) (s : Stretch) → AreBytes s.bytes → length s.bytes < 2 ^ 63
+      → length (payload_delivers opened key number (from_place n s)).bytes < 2 ^ 63
   delivered-short number n s are short =
-      omega (arith, (delivers-fits (length (drop n s.bytes) / 65552) number (drop n s.bytes) s.ends_well (All-drop (λ x. x < 2 ^ 8) n s.bytes are)).most, length-drop n s.bytes)
+      omega (
+        arith,
+        (delivers-fits (length (drop n s.bytes) / 65552) number (drop n s.bytes) s.ends_well
+            (All-drop (λ x. x < 2 ^ 8) n s.bytes are)).most,
+        length-drop n s.bytes,
+      )

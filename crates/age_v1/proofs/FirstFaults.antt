@@ -25,7 +25,8 @@ use Rattle.age_v1.proofs.CleanEnds.{delivered_carried, is_space_back, refused_cl
 refused_same : (e f : Error) → Path Ending (Refused e) (Refused f) → e ≡ f
 refused_same e f p = cc p
 
-outcome_is : (bytes x : List ℕ) (e f : Ending) → bytes ≡ x → e ≡ f → Path Outcome (record { bytes = bytes; ending = e }) (record { bytes = x; ending = f })
+outcome_is : (bytes x : List ℕ) (e f : Ending) → bytes ≡ x → e ≡ f
+    → Path Outcome (record { bytes = bytes; ending = e }) (record { bytes = x; ending = f })
 outcome_is bytes x e f p q =
     let make : List ℕ → Ending → Outcome = λ bytes ending. record { bytes = bytes; ending = ending } in
     ap (λ y. make y e) p ∙ ap (λ z. make x z) q
@@ -40,7 +41,8 @@ empty_verdict s = passes_to s [] (IsUtf8-from_ascii [] IsAscii-nil) ∙ of_colum
     of_columns true = refl
     of_columns false = refl
 
-last_line : (text raw rest : List ℕ) → text ≡ raw ++ rest → Lacks 10 raw → rest ≡ [] → (raw_lines text ≡ raw ∷ raw_lines rest) ⊎ ((raw ≡ []) × (text ≡ []))
+last_line : (text raw rest : List ℕ) → text ≡ raw ++ rest → Lacks 10 raw → rest ≡ []
+    → (raw_lines text ≡ raw ∷ raw_lines rest) ⊎ ((raw ≡ []) × (text ≡ []))
 last_line text [] rest whole lacks over = inr (refl, whole ∙ over)
 last_line text (c ∷ raw) rest whole lacks over =
     let all : text ≡ c ∷ raw = whole ∙ ap (λ y. (c ∷ raw) ++ y) over ∙ append-nil (c ∷ raw) in
@@ -68,7 +70,8 @@ section_by s text raw rest v line h = elim (first_line text raw rest line) [
   | inl lines ↦ ap (λ ls. section s ls true) lines ∙ section_step s raw rest v h
   | inr (none, over) ↦
       let is : Refuses NotWrappedAt64Chars ≡ v = sym (empty_verdict s) ∙ ap (verdict s) (sym none) ∙ verdict_is s raw v h in
-      ap (λ t. section s (raw_lines t) true) over ∙ ap (λ u. after_line u (section (is_short (line_columns raw)) (raw_lines rest) true) (trailing rest true)) is
+      ap (λ t. section s (raw_lines t) true) over
+      ∙ ap (λ u. after_line u (section (is_short (line_columns raw)) (raw_lines rest) true) (trailing rest true)) is
 ]
 
 -- ---- a first fault is delivered
@@ -88,16 +91,19 @@ fault_after [] s text e (raw, rest, line, inr (h, garbage, named)) =
 fault_after (piece ∷ pieces) s text e (raw, rest, line, h, more) =
     section_by s text raw rest (Holds piece) line h ∙ ap (λ o. outcome_after piece o) (fault_after pieces (is_short (line_columns raw)) rest e more)
 
-bad_line_delivered : (s : Bool) (text bytes : List ℕ) (e : Error) → HasBadLine s text bytes e → section s (raw_lines text) true ≡ record { bytes = bytes; ending = Refused e }
+bad_line_delivered : (s : Bool) (text bytes : List ℕ) (e : Error) → HasBadLine s text bytes e
+    → section s (raw_lines text) true ≡ record { bytes = bytes; ending = Refused e }
 bad_line_delivered s text bytes e p =
     fault_after p.pieces s text p.fault p.after
     ∙ outcome_is (concat p.pieces) bytes (Refused (Armor p.fault)) (Refused e) (sym p.held) (ap (λ f. Refused f) (sym p.named))
 
-pub fault_delivered : (text bytes : List ℕ) (e : Error) → IsFirstFault text bytes e → text_delivers text true ≡ record { bytes = bytes; ending = Refused e }
+pub fault_delivered : (text bytes : List ℕ) (e : Error) → IsFirstFault text bytes e
+    → text_delivers text true ≡ record { bytes = bytes; ending = Refused e }
 fault_delivered text bytes e (inl (short, none, named)) =
     early_delivers text true short ∙ outcome_is [] bytes (Refused UnexpectedEof) (Refused e) (sym none) (ap (λ f. Refused f) (sym named))
 fault_delivered text bytes e (inr (inl (m, none, named))) =
-    open_marker_delivers text true m ∙ outcome_is [] bytes (Refused (Armor InvalidBeginMarker)) (Refused e) (sym none) (ap (λ f. Refused f) (sym named))
+    open_marker_delivers text true m ∙ outcome_is [] bytes (Refused (Armor InvalidBeginMarker)) (Refused e) (sym none)
+    (ap (λ f. Refused f) (sym named))
 fault_delivered text bytes e (inr (inr (m, p))) =
     marker_line_delivers text m.first m.rest true m.size m.whole m.marker ∙ bad_line_delivered false m.rest bytes e p
 
@@ -110,7 +116,8 @@ garbage_named (b ∷ t) e p = elim (cases_Bool (is_space b)) [
   | inr q ↦ refused_same e (Armor TrailingGarbage) (sym (rw q at p))
 ]
 
-fault_at : (v : LineVerdict) (s : Bool) (raw rest : List ℕ) (next : Outcome) (e : Error) → IsFirstLine (raw ++ rest) raw rest → IsLineVerdict s raw v →
+fault_at : (v : LineVerdict) (s : Bool) (raw rest : List ℕ) (next : Outcome) (e : Error) → IsFirstLine (raw ++ rest) raw rest
+    → IsLineVerdict s raw v →
     (next.ending ≡ Refused e → HasBadLine (is_short (line_columns raw)) rest next.bytes e) →
     (after_line v next (trailing rest true)).ending ≡ Refused e → HasBadLine s (raw ++ rest) (after_line v next (trailing rest true)).bytes e
 fault_at (Refuses f) s raw rest next e line h ih p = record {
@@ -137,7 +144,8 @@ fault_at (Holds b) s raw rest next e line h ih p =
       named = found.named;
     }
 
-section_faults : (ls : List (List ℕ)) → AreRaw ls → (s : Bool) (e : Error) → (section s ls true).ending ≡ Refused e → HasBadLine s (concat ls) (section s ls true).bytes e
+section_faults : (ls : List (List ℕ)) → AreRaw ls → (s : Bool) (e : Error) → (section s ls true).ending ≡ Refused e
+    → HasBadLine s (concat ls) (section s ls true).bytes e
 section_faults [] a s e p = record {
   pieces = [];
   held = refl;
@@ -150,7 +158,8 @@ section_faults (raw ∷ more) a s e p =
     fault_at (verdict s raw) s raw (concat more) (section (is_short (line_columns raw)) more true) e line (one_verdict s raw)
     (section_faults more others (is_short (line_columns raw)) e) p
 
-line_faults : (text : List ℕ) (s : Bool) (e : Error) → (section s (raw_lines text) true).ending ≡ Refused e → HasBadLine s text (section s (raw_lines text) true).bytes e
+line_faults : (text : List ℕ) (s : Bool) (e : Error) → (section s (raw_lines text) true).ending ≡ Refused e
+    → HasBadLine s text (section s (raw_lines text) true).bytes e
 line_faults text s e p =
     subst (λ t. HasBadLine s t (section s (raw_lines text) true).bytes e) (concat_raw text) (section_faults (raw_lines text) (are_raw text) s e p)
 
@@ -181,7 +190,8 @@ trailing_own (b ∷ t) p = elim (cases_Bool (is_space b)) [
     refused_inner : (e : Error) → Path Ending (Refused e) InnerFault → ⊥
     refused_inner e p = cc
 
-after_own : (v : LineVerdict) (next : Outcome) (end : Ending) → (next.ending ≡ InnerFault → ⊥) → (end ≡ InnerFault → ⊥) → (after_line v next end).ending ≡ InnerFault → ⊥
+after_own : (v : LineVerdict) (next : Outcome) (end : Ending) → (next.ending ≡ InnerFault → ⊥) → (end ≡ InnerFault → ⊥)
+    → (after_line v next end).ending ≡ InnerFault → ⊥
 after_own (Refuses e) next end h k p = let bad : Path Ending (Refused (Armor e)) InnerFault = p in cc
 after_own Ends next end h k p = k p
 after_own (Holds b) next end h k p = h p
@@ -195,9 +205,12 @@ section_own (raw ∷ more) s p =
 delivered_own : (text : List ℕ) → (text_delivers text true).ending ≡ InnerFault → ⊥
 delivered_own text p = elim (shape_of text) [
   | inl short ↦ let bad : Path Ending (Refused UnexpectedEof) InnerFault = sym (ap (λ o. o.ending) (early_delivers text true short)) ∙ p in cc
-  | inr (inl plain) ↦ let bad : Path Ending Clean InnerFault = sym (ap (λ o. o.ending) (plain_delivers text true plain.size plain.no_marker)) ∙ p in cc
-  | inr (inr (inl m)) ↦ let bad : Path Ending (Refused (Armor InvalidBeginMarker)) InnerFault = sym (ap (λ o. o.ending) (open_marker_delivers text true m)) ∙ p in cc
-  | inr (inr (inr m)) ↦ section_own (raw_lines m.rest) false (sym (ap (λ o. o.ending) (marker_line_delivers text m.first m.rest true m.size m.whole m.marker)) ∙ p)
+  | inr (inl plain) ↦ let bad : Path Ending Clean InnerFault =
+      sym (ap (λ o. o.ending) (plain_delivers text true plain.size plain.no_marker)) ∙ p in cc
+  | inr (inr (inl m)) ↦ let bad : Path Ending (Refused (Armor InvalidBeginMarker)) InnerFault =
+      sym (ap (λ o. o.ending) (open_marker_delivers text true m)) ∙ p in cc
+  | inr (inr (inr m)) ↦ section_own (raw_lines m.rest) false
+      (sym (ap (λ o. o.ending) (marker_line_delivers text m.first m.rest true m.size m.whole m.marker)) ∙ p)
 ]
 
 -- ---- either, and not both
@@ -207,7 +220,8 @@ ending_cases Clean = inl refl
 ending_cases (Refused f) = inr (inl (f, refl))
 ending_cases InnerFault = inr (inr refl)
 
-pub carrying_or_faulty : (text : List ℕ) → AreBytes text → ((bytes : List ℕ) × Carries text bytes) ⊎ ((bytes : List ℕ) × (e : Error) × IsFirstFault text bytes e)
+pub carrying_or_faulty : (text : List ℕ) → AreBytes text
+    → ((bytes : List ℕ) × Carries text bytes) ⊎ ((bytes : List ℕ) × (e : Error) × IsFirstFault text bytes e)
 carrying_or_faulty text h = elim (ending_cases (text_delivers text true).ending) [
   | inl clean ↦
       let bytes = (text_delivers text true).bytes in

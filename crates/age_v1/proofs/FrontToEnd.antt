@@ -23,7 +23,8 @@ last_piece_is : (i n : ℕ) → n ≤ 65536 → (0 < i → 0 < n) → last_piece
 last_piece_is zero n h more = omega arith
 last_piece_is (suc i) n h more = let some = more (omega arith) in omega (arith, some)
 
-module _ (seal_of : Seal) (opened : List ℕ → List ℕ → List ℕ → Option (List ℕ)) (law : IsCipher seal_of opened) (key : List ℕ) (k : AreBytesOf 32 key) (sealed : List ℕ) (b : AreBytes sealed) where
+module _ (seal_of : Seal) (opened : List ℕ → List ℕ → List ℕ → Option (List ℕ)) (law : IsCipher seal_of opened) (key : List ℕ)
+    (k : AreBytesOf 32 key) (sealed : List ℕ) (b : AreBytes sealed) where
   -- what a chunk opened to
   pub opens_to : (i : ℕ) (is_last : Bool) (plain : List ℕ) → opened key (chunk_nonce i is_last) (chunk i sealed) ≡ Some plain
       → AreBytes plain × (chunk i sealed ≡ seal_of key (chunk_nonce i is_last) plain)

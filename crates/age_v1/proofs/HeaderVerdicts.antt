@@ -47,20 +47,32 @@ module _ (legacy : Bool) where
 
   not_bad_version : (t : List ℕ) → IsUnknownVersion t → IsBadFront legacy t → ⊥
   not_bad_version t h (inl (before, b, e, lt, ne)) =
-      omega (arith, ap length e, length-append before (b ∷ []), ap length h.spelled, length-append (magic ++ h.version) (10 ∷ []), length-append magic h.version)
+      omega (
+        arith,
+        ap length e,
+        length-append before (b ∷ []),
+        ap length h.spelled,
+        length-append (magic ++ h.version)
+            (10 ∷ []),
+        length-append magic h.version,
+      )
   not_bad_version t h (inr (inl (before, b, e, ge, ne, out))) = ne (ends_so t before (magic ++ h.version) b e h.spelled)
   not_bad_version t h (inr (inr bad)) = bad.known h
 
   not_both : (t : List ℕ) (ss : List StanzaValue) (m : List ℕ) → IsHeaderText legacy t ss m → IsUnknownVersion t → ⊥
   not_both t ss m h u =
-      let f : line version_line ++ (h.middle ++ line (mac_line m)) ≡ line (magic ++ u.version) ++ [] = sym h.spelled ∙ u.spelled ∙ sym (append-nil (line (magic ++ u.version))) in
-      let lacks : Lacks 10 (magic ++ u.version) = Lacks-append 10 magic u.version (lacks_tested 10 magic refl) (Lacks_string 10 (omega arith) u.version u.string.1) in
-      let same : version_line ≡ magic ++ u.version = (split_line version_line (magic ++ u.version) (h.middle ++ line (mac_line m)) [] version_line_lacks lacks f).0 in
+      let f : line version_line ++ (h.middle ++ line (mac_line m)) ≡ line (magic ++ u.version) ++ [] =
+      sym h.spelled ∙ u.spelled ∙ sym (append-nil (line (magic ++ u.version))) in
+      let lacks : Lacks 10 (magic ++ u.version) =
+      Lacks-append 10 magic u.version (lacks_tested 10 magic refl) (Lacks_string 10 (omega arith) u.version u.string.1) in
+      let same : version_line ≡ magic ++ u.version =
+      (split_line version_line (magic ++ u.version) (h.middle ++ line (mac_line m)) [] version_line_lacks lacks f).0 in
       u.other (sym (append_cancel_left magic (codes "v1") u.version same))
 
   pub same_decision : (t : List ℕ) (v w : Verdict) → FrontDecides legacy t v → FrontDecides legacy t w → v ≡ w
   same_decision t (Header ss m) (Header zs n) h k =
-      let r = same_header legacy t [] ss zs m n h (subst (λ x. IsHeaderText legacy x zs n) (sym (append-nil t)) k) in ap (λ x. Header x m) r.0 ∙ ap (λ x. Header zs x) r.1
+      let r = same_header legacy t [] ss zs m n h (subst (λ x. IsHeaderText legacy x zs n) (sym (append-nil t)) k) in
+      ap (λ x. Header x m) r.0 ∙ ap (λ x. Header zs x) r.1
   same_decision t (Header ss m) UnknownVersion h k = absurd (not_both t ss m h k)
   same_decision t (Header ss m) Bad h k = absurd (not_bad_header t ss m h k)
   same_decision t UnknownVersion (Header zs n) h k = absurd (not_both t zs n k h)

@@ -45,13 +45,23 @@ plain_line xs h = each-append IsPlain xs (10 ∷ []) h ((λ n. absurd (n refl)),
 
 plain_first : (s : StanzaValue) → IsStanza s → ArePlain (first_line s)
 unfolding first_line
-plain_first s h =
-    ((λ n. (omega arith, omega arith)), ((λ n. (omega arith, omega arith)), ((λ n. (omega arith, omega arith)), plain_words (s.tag ∷ s.args) (h.tag, h.args))))
+plain_first s h = (
+  (λ n. (omega arith, omega arith)),
+  (
+    (λ n. (omega arith, omega arith)),
+    ((λ n. (omega arith, omega arith)), plain_words (s.tag ∷ s.args) (h.tag, h.args)),
+  ),
+)
 
 plain_mac : (m : List ℕ) → AreBytes m → ArePlain (mac_line m)
 unfolding mac_line
-plain_mac m h =
-    ((λ n. (omega arith, omega arith)), ((λ n. (omega arith, omega arith)), ((λ n. (omega arith, omega arith)), ((λ n. (omega arith, omega arith)), plain_symbols (columns m) (columns_symbols m h)))))
+plain_mac m h = (
+  (λ n. (omega arith, omega arith)),
+  (
+    (λ n. (omega arith, omega arith)),
+    ((λ n. (omega arith, omega arith)), ((λ n. (omega arith, omega arith)), plain_symbols (columns m) (columns_symbols m h))),
+  ),
+)
 
 -- the version's line is made of strings
 plain_version : ArePlain version_line
@@ -63,14 +73,17 @@ module _ (legacy : Bool) where
   plain_body zero x b (small, inr e) h = subst ArePlain (sym e.2) tt
   plain_body (suc k) x b (p, c, y, size, parts, text, deep) h =
       let hp = front_bytes p c (subst AreBytes parts h) in
-      subst ArePlain (sym text) (each-append IsPlain (line (columns p)) y (plain_line (columns p) (plain_symbols (columns p) (columns_symbols p hp))) (plain_body k y c deep (back_bytes p c (subst AreBytes parts h))))
+      subst ArePlain (sym text) (each-append IsPlain (line (columns p)) y
+      (plain_line (columns p) (plain_symbols (columns p) (columns_symbols p hp)))
+      (plain_body k y c deep (back_bytes p c (subst AreBytes parts h))))
 
   plain_texts : (t : List ℕ) (ss : List StanzaValue) → AreStanzaTexts legacy t ss → ArePlain t
   plain_texts t [] h = subst ArePlain (sym h) tt
   plain_texts t (s ∷ ss) (a, b, parts, here, rest) =
       let p = stanza_parts legacy a s here in
       let first : ArePlain a =
-      subst ArePlain (sym p.1) (each-append IsPlain (line (first_line s)) p.0 (plain_line (first_line s) (plain_first s here.stanza)) (plain_body (length s.body / 48) p.0 s.body p.2 here.stanza.body)) in
+      subst ArePlain (sym p.1) (each-append IsPlain (line (first_line s)) p.0 (plain_line (first_line s) (plain_first s here.stanza))
+      (plain_body (length s.body / 48) p.0 s.body p.2 here.stanza.body)) in
       subst ArePlain (sym parts) (each-append IsPlain a b first (plain_texts b ss rest))
 
   plain_header : (t : List ℕ) (ss : List StanzaValue) (m : List ℕ) → IsHeaderText legacy t ss m → ArePlain t
@@ -86,14 +99,19 @@ module _ (legacy : Bool) where
       let r = same_header legacy shorter (b ∷ rest) zs ss n m k (subst (λ x. IsHeaderText legacy x ss m) e h) in
       let none : b ∷ rest ≡ [] = r.2 in cc
   front_quiet t ss m h shorter b rest UnknownVersion e u =
-      let f : line version_line ++ (h.middle ++ line (mac_line m)) ≡ line (magic ++ u.version) ++ b ∷ rest = sym h.spelled ∙ e ∙ ap (λ x. x ++ b ∷ rest) u.spelled in
-      let lacks : Lacks 10 (magic ++ u.version) = Lacks-append 10 magic u.version (lacks_tested 10 magic refl) (Lacks_string 10 (omega arith) u.version u.string.1) in
-      let same : version_line ≡ magic ++ u.version = (split_line version_line (magic ++ u.version) (h.middle ++ line (mac_line m)) (b ∷ rest) version_line_lacks lacks f).0 in
+      let f : line version_line ++ (h.middle ++ line (mac_line m)) ≡ line (magic ++ u.version) ++ b ∷ rest =
+      sym h.spelled ∙ e ∙ ap (λ x. x ++ b ∷ rest) u.spelled in
+      let lacks : Lacks 10 (magic ++ u.version) =
+      Lacks-append 10 magic u.version (lacks_tested 10 magic refl) (Lacks_string 10 (omega arith) u.version u.string.1) in
+      let same : version_line ≡ magic ++ u.version =
+      (split_line version_line (magic ++ u.version) (h.middle ++ line (mac_line m)) (b ∷ rest) version_line_lacks lacks f).0 in
       u.other (sym (append_cancel_left magic (codes "v1") u.version same))
   front_quiet t ss m h shorter b rest Bad e (inl (before, c, f, lt, other)) =
       let tail : List ℕ = codes "v1" ++ (10 ∷ (h.middle ++ line (mac_line m))) in
-      let g : before ++ c ∷ (b ∷ rest) ≡ magic ++ tail = sym (append_assoc before (c ∷ []) (b ∷ rest)) ∙ ap (λ x. x ++ b ∷ rest) (sym f) ∙ sym e ∙ h.spelled in
-      other (sym (get_or-append_seam before c (b ∷ rest) 0) ∙ ap (λ x. get_or x (length before) 0) g ∙ get_or_append_left magic tail 0 (length before) lt)
+      let g : before ++ c ∷ (b ∷ rest) ≡ magic ++ tail =
+      sym (append_assoc before (c ∷ []) (b ∷ rest)) ∙ ap (λ x. x ++ b ∷ rest) (sym f) ∙ sym e ∙ h.spelled in
+      other (sym (get_or-append_seam before c (b ∷ rest) 0) ∙ ap (λ x. get_or x (length before) 0) g
+      ∙ get_or_append_left magic tail 0 (length before) lt)
   front_quiet t ss m h shorter b rest Bad e (inr (inl (before, c, f, ge, feed, out))) =
       let g : t ≡ before ++ c ∷ (b ∷ rest) = e ∙ ap (λ x. x ++ b ∷ rest) f ∙ append_assoc before (c ∷ []) (b ∷ rest) in
       let all : ArePlain (c ∷ (b ∷ rest)) = each_right IsPlain before (c ∷ (b ∷ rest)) (subst ArePlain g (plain_header t ss m h)) in

@@ -24,18 +24,21 @@ piece_more i s =
     ∙ ap (λ xs. take 65536 (drop (65536 * i) plain) ++ xs) (sym (drop-drop 65536 (65536 * i) plain))
     ∙ take-append-drop 65536 (drop (65536 * i) plain)) refl
 
-module _ (seal_of : Seal) (opened : List ℕ → List ℕ → List ℕ → Option (List ℕ)) (law : IsCipher seal_of opened) (key : List ℕ) (k : AreBytesOf 32 key) where
+module _ (seal_of : Seal) (opened : List ℕ → List ℕ → List ℕ → Option (List ℕ)) (law : IsCipher seal_of opened) (key : List ℕ)
+    (k : AreBytesOf 32 key) where
   -- a full chunk and what stands after it
   pub middle-delivered : (number : ℕ) (s : Stretch) (plain : List ℕ) → 65552 * number + 65552 ≤ length s.bytes →
       chunk_of opened key number (text_at number s) ≡ Ok (plain, false) →
-      payload_delivers opened key number (from_place (65552 * number) s) ≡ prepend plain (payload_delivers opened key (suc number) (from_place (65552 * suc number) s))
+      payload_delivers opened key number (from_place (65552 * number) s)
+      ≡ prepend plain (payload_delivers opened key (suc number) (from_place (65552 * suc number) s))
   middle-delivered number s plain full is =
       let rest = drop (65552 * number) s.bytes in
       let text = take 65552 rest in
       let more = drop 65552 rest in
       let all : text ++ more ≡ rest = take-append-drop 65552 rest in
       let size = full-text 65552 (65552 * number) s.bytes full in
-      let is_so = delivered-chunk opened key number text more s.ends_well plain false (text-most 65552 rest) (λ short. absurd (not-short (length text) size short))
+      let is_so = delivered-chunk opened key number text more s.ends_well plain false (text-most 65552 rest)
+      (λ short. absurd (not-short (length text) size short))
       (λ short. absurd (not-short (length text) size short)) is in
       sym (ap (λ (xs : List ℕ). payload_delivers opened key number (record { bytes = xs; ends_well = s.ends_well })) all) ∙ is_so
       ∙ ap (λ d. prepend plain (payload_delivers opened key (suc number) d)) (next_place number s)
@@ -49,10 +52,12 @@ module _ (seal_of : Seal) (opened : List ℕ → List ℕ → List ℕ → Optio
       let text = take 65552 rest in
       let more = drop 65552 rest in
       let all : text ++ more ≡ rest = take-append-drop 65552 rest in
-      let none : more ≡ [] = drop_all 65552 rest (few-left (length rest) (length sealed) (65552 * number) (length-drop (65552 * number) sealed) few) in
+      let none : more ≡ [] = drop_all 65552 rest
+      (few-left (length rest) (length sealed) (65552 * number) (length-drop (65552 * number) sealed) few) in
       let is_so = delivered-chunk opened key number text more true plain true (text-most 65552 rest) (λ short. (none, refl)) (λ short. refl) is in
       sym (ap (λ (xs : List ℕ). payload_delivers opened key number (whole xs)) all) ∙ is_so
-      ∙ ap (λ (xs : List ℕ). prepend plain (after_last xs true)) none ∙ stretch-ext (prepend plain (after_last [] true)) (whole plain) (append-nil plain) refl
+      ∙ ap (λ (xs : List ℕ). prepend plain (after_last xs true)) none
+      ∙ stretch-ext (prepend plain (after_last [] true)) (whole plain) (append-nil plain) refl
 
   module _ (plain : List ℕ) (b : AreBytes plain) (most : length plain ≤ 2 ^ 60) (apart : LastIsNoMiddle seal_of key plain) where
     abbrev sealed : List ℕ
@@ -70,7 +75,8 @@ module _ (seal_of : Seal) (opened : List ℕ → List ℕ → List ℕ → Optio
           some = λ later. rw (← last) (omega arith);
           limit = λ some. omega arith;
         } in
-        let one = held-judged_last seal_of opened law key k sealed (payload-bytes seal_of opened law key k plain b).bytes number (piece number plain) held allowed in
+        let one = held-judged_last seal_of opened law key k sealed (payload-bytes seal_of opened law key k plain b).bytes number
+        (piece number plain) held allowed in
         last-delivered number sealed (piece number plain) (omega arith) one ∙ stretch-ext _ _ (cut_rest 65536 number plain (omega arith)) refl
     delivered_from (suc count) number is =
         let len = length-payload seal_of opened law key k plain b in
@@ -78,7 +84,8 @@ module _ (seal_of : Seal) (opened : List ℕ → List ℕ → List ℕ → Optio
         let size = length-full_piece number plain (omega arith) in
         let held = held-middle seal_of opened law key k plain number b before in
         let allowed : IsAllowed number (piece number plain) = record { some = λ later. omega arith; limit = λ some. omega arith } in
-        let one = held-judged_middle seal_of opened law key k sealed (payload-bytes seal_of opened law key k plain b).bytes number (piece number plain) held allowed in
+        let one = held-judged_middle seal_of opened law key k sealed (payload-bytes seal_of opened law key k plain b).bytes number
+        (piece number plain) held allowed in
         middle-delivered number (whole sealed) (piece number plain) (omega arith) one
         ∙ ap (prepend (piece number plain)) (delivered_from count (suc number) (omega arith)) ∙ piece_more number (whole plain)
 

@@ -68,7 +68,8 @@ flag_of (Err e) = false
 
 -- a middle chunk isn't accepted as the last
 middle-no_last : (xs : List ℕ) (empty near : Bool) (p q : List ℕ) →
-    ◌≡◌ {A = Result Chunk Error} (cond (is_empty xs) (cond empty (Err LastChunkEmpty) (Ok (p, false))) (cond near (Ok (p, false)) (Err TooLong))) (Ok (q, true)) → ⊥
+    ◌≡◌ {A = Result Chunk Error} (cond (is_empty xs) (cond empty (Err LastChunkEmpty) (Ok (p, false))) (cond near (Ok (p, false)) (Err TooLong)))
+    (Ok (q, true)) → ⊥
 middle-no_last [] true near p q is = true≢false (sym (ap flag_of is))
 middle-no_last [] false near p q is = true≢false (sym (ap flag_of is))
 middle-no_last (z ∷ zs) empty true p q is = true≢false (sym (ap flag_of is))
@@ -130,7 +131,8 @@ module _ (opened : List ℕ → List ℕ → List ℕ → Option (List ℕ)) (ke
   unfolding chunk_of
   chunk_of-none number = refl
 
-module _ (seal_of : Seal) (opened : List ℕ → List ℕ → List ℕ → Option (List ℕ)) (law : IsCipher seal_of opened) (key : List ℕ) (k : AreBytesOf 32 key) (sealed : List ℕ) (b : AreBytes sealed) where
+module _ (seal_of : Seal) (opened : List ℕ → List ℕ → List ℕ → Option (List ℕ)) (law : IsCipher seal_of opened) (key : List ℕ)
+    (k : AreBytesOf 32 key) (sealed : List ℕ) (b : AreBytes sealed) where
   -- the text of a chunk, as a reader takes it
   abbrev text_of : ℕ → List ℕ
   text_of number = text_at number (whole sealed)
@@ -141,12 +143,15 @@ module _ (seal_of : Seal) (opened : List ℕ → List ℕ → List ℕ → Optio
   opens_chunk number last o is = sym (ap (opened key (chunk_nonce number last)) (text_chunk number (whole sealed))) ∙ is
 
   -- what opens as a middle chunk is held as one
-  middle-held : (number : ℕ) (plain : List ℕ) → length (text_of number) ≡ 65552 → opened key (chunk_nonce number false) (text_of number) ≡ Some plain →
+  middle-held : (number : ℕ) (plain : List ℕ) → length (text_of number) ≡ 65552
+      → opened key (chunk_nonce number false) (text_of number) ≡ Some plain →
       OpensAsMiddle seal_of key sealed number plain
-  middle-held number plain full is = held_middle seal_of opened law key k sealed b number plain (full-within 65552 (65552 * number) sealed (omega arith) full) (opens_chunk number false (Some plain) is)
+  middle-held number plain full is = held_middle seal_of opened law key k sealed b number plain
+      (full-within 65552 (65552 * number) sealed (omega arith) full) (opens_chunk number false (Some plain) is)
 
   -- what is short, or doesn't open as a middle chunk, isn't held as one
-  middle-none : (number : ℕ) → 0 < length (text_of number) → (length (text_of number) ≡ 65552 → opened key (chunk_nonce number false) (text_of number) ≡ None) →
+  middle-none : (number : ℕ) → 0 < length (text_of number)
+      → (length (text_of number) ≡ 65552 → opened key (chunk_nonce number false) (text_of number) ≡ None) →
       (other : List ℕ) → OpensAsMiddle seal_of key sealed number other → ⊥
   middle-none number some none other held =
       let full : length (text_of number) ≡ 65552 = ap length (text_chunk number (whole sealed)) ∙ held.full in
@@ -166,7 +171,8 @@ module _ (seal_of : Seal) (opened : List ℕ → List ℕ → List ℕ → Optio
       let a = accepted opened key number (text_of number) plain true is in
       elim (judged_by opened key number (text_of number) a.some) [
         | inl middle ↦ absurd (middle-no_last middle.0 (nat_lt 0 number) (nat_lt number (2 ^ 44)) middle.0 plain (sym middle.3 ∙ is))
-        | inr by ↦ held_last seal_of opened law key k sealed b number plain (middle-none number a.some by.0) (opens_chunk number true (Some plain) a.opens)
+        | inr by ↦ held_last seal_of opened law key k sealed b number plain (middle-none number a.some by.0)
+            (opens_chunk number true (Some plain) a.opens)
       ]
 
   -- why what is held as middle is refused, and what isn't
@@ -179,7 +185,8 @@ module _ (seal_of : Seal) (opened : List ℕ → List ℕ → List ℕ → Optio
         | inr far ↦ rw far.0 (far.2, (plain, far.1, inl held))
       ]
 
-  refused-last : (number : ℕ) (o : Option (List ℕ)) (e : Error) → 65552 * number < length sealed → opened key (chunk_nonce number true) (chunk number sealed) ≡ o →
+  refused-last : (number : ℕ) (o : Option (List ℕ)) (e : Error) → 65552 * number < length sealed
+      → opened key (chunk_nonce number true) (chunk number sealed) ≡ o →
       ((other : List ℕ) → OpensAsMiddle seal_of key sealed number other → ⊥) →
       allowed_if number (option_map {U = Chunk} (λ p. (p, true)) o) ≡ Err e → StopsAt seal_of key sealed number e
   refused-last number None e there opens apart is =
@@ -211,8 +218,15 @@ module _ (seal_of : Seal) (opened : List ℕ → List ℕ → List ℕ → Optio
   -- bytes follow a chunk that is accepted as the last
   pub judged-after_last : (number : ℕ) (plain : List ℕ) → chunk_of opened key number (text_of number) ≡ Ok (plain, true) →
       65552 * (number + 1) < length sealed → StopsAt seal_of key sealed number AfterLast
-  judged-after_last number plain is more =
-      (more, (plain, allowed-accepted opened key number (text_of number) plain true (accepted opened key number (text_of number) plain true is), judged-last number plain is))
+  judged-after_last number plain is more = (
+    more,
+    (
+      plain,
+      allowed-accepted opened key number (text_of number) plain true
+          (accepted opened key number (text_of number) plain true is),
+      judged-last number plain is,
+    ),
+  )
 
   -- ---- the other way
 
@@ -220,7 +234,8 @@ module _ (seal_of : Seal) (opened : List ℕ → List ℕ → List ℕ → Optio
   opens_held : (number : ℕ) (last : Bool) (plain : List ℕ) → AreBytes plain → chunk number sealed ≡ seal_of key (chunk_nonce number last) plain →
       opened key (chunk_nonce number last) (text_of number) ≡ Some plain
   opens_held number last plain p is = ap (opened key (chunk_nonce number last)) (text_chunk number (whole sealed))
-      ∙ (law.opens_exactly key (chunk_nonce number last) (chunk number sealed) plain k (nonce-bytes number last) (chunk-bytes number sealed b)).1 (p, is)
+      ∙ (law.opens_exactly key (chunk_nonce number last) (chunk number sealed) plain k (nonce-bytes number last) (chunk-bytes number sealed b)).1
+      (p, is)
 
   -- a chunk that is held as middle, and not refused by itself, is accepted so
   pub held-judged_middle : (number : ℕ) (plain : List ℕ) → OpensAsMiddle seal_of key sealed number plain → IsAllowed number plain →
@@ -247,15 +262,19 @@ module _ (seal_of : Seal) (opened : List ℕ → List ℕ → List ℕ → Optio
       (ap length (text_chunk number (whole sealed))) (ap length held.is_seal) size in
       elim (judged_by opened key number (text_of number) some) [
         | inl middle ↦ absurd (held.not_middle middle.0 (middle-held number middle.0 middle.1 middle.2))
-        | inr by ↦ by.1 ∙ ap (λ (o : Option (List ℕ)). allowed_if number (option_map {U = Chunk} (λ p. (p, true)) o)) opens ∙ allowed-ok number plain true allowed_so
+        | inr by ↦ by.1 ∙ ap (λ (o : Option (List ℕ)). allowed_if number (option_map {U = Chunk} (λ p. (p, true)) o)) opens
+            ∙ allowed-ok number plain true allowed_so
       ]
 
   -- what opens as the last at the end is the last chunk
-  pub ends_last : (number : ℕ) (plain : List ℕ) → number ≡ final_chunk (length sealed) → opened key (chunk_nonce number true) (text_of number) ≡ Some plain → EndsAsLast seal_of key sealed
+  pub ends_last : (number : ℕ) (plain : List ℕ) → number ≡ final_chunk (length sealed)
+      → opened key (chunk_nonce number true) (text_of number) ≡ Some plain → EndsAsLast seal_of key sealed
   ends_last number plain is opens =
-      let both = (law.opens_exactly key (chunk_nonce number true) (chunk number sealed) plain k (nonce-bytes number true) (chunk-bytes number sealed b)).0 (opens_chunk number true (Some plain) opens) in
+      let both = (law.opens_exactly key (chunk_nonce number true) (chunk number sealed) plain k (nonce-bytes number true)
+      (chunk-bytes number sealed b)).0 (opens_chunk number true (Some plain) opens) in
       record { plain = plain; bytes = both.0; is_seal = rw (← is) both.1 }
 
   -- what doesn't open as the last at the end isn't the seal of any bytes as the last
-  pub ends_badly : opened key (chunk_nonce (final_chunk (length sealed)) true) (text_of (final_chunk (length sealed))) ≡ None → EndsAsLast seal_of key sealed → ⊥
+  pub ends_badly : opened key (chunk_nonce (final_chunk (length sealed)) true) (text_of (final_chunk (length sealed))) ≡ None
+      → EndsAsLast seal_of key sealed → ⊥
   ends_badly none ends = none-apart ends.plain (sym none ∙ opens_held (final_chunk (length sealed)) true ends.plain ends.bytes ends.is_seal)

@@ -30,7 +30,8 @@ abbrev pub Shorter : (List ℕ → List ℕ → List ℕ → Option (List ℕ)) 
 Shorter opened key = (number : ℕ) (last : Bool) (text plain : List ℕ) → AreBytes text
     → opened key (chunk_nonce number last) text ≡ Some plain → length plain + 16 ≡ length text
 
-module _ (seal_of : Seal) (opened : List ℕ → List ℕ → List ℕ → Option (List ℕ)) (law : IsCipher seal_of opened) (key : List ℕ) (k : AreBytesOf 32 key) where
+module _ (seal_of : Seal) (opened : List ℕ → List ℕ → List ℕ → Option (List ℕ)) (law : IsCipher seal_of opened) (key : List ℕ)
+    (k : AreBytesOf 32 key) where
   pub shorter : Shorter opened key
   shorter number last text plain bytes is =
       let both = (law.opens_exactly key (chunk_nonce number last) text plain k (nonce-bytes number last) bytes).0 is in
@@ -41,6 +42,8 @@ abbrev pub OpensBytes : (List ℕ → List ℕ → List ℕ → Option (List ℕ
 OpensBytes opened key = (number : ℕ) (last : Bool) (text plain : List ℕ) → AreBytes text
     → opened key (chunk_nonce number last) text ≡ Some plain → AreBytes plain
 
-module _ (seal_of : Seal) (opened : List ℕ → List ℕ → List ℕ → Option (List ℕ)) (law : IsCipher seal_of opened) (key : List ℕ) (k : AreBytesOf 32 key) where
+module _ (seal_of : Seal) (opened : List ℕ → List ℕ → List ℕ → Option (List ℕ)) (law : IsCipher seal_of opened) (key : List ℕ)
+    (k : AreBytesOf 32 key) where
   pub opens_bytes : OpensBytes opened key
-  opens_bytes number last text plain bytes is = ((law.opens_exactly key (chunk_nonce number last) text plain k (nonce-bytes number last) bytes).0 is).0
+  opens_bytes number last text plain bytes is =
+      ((law.opens_exactly key (chunk_nonce number last) text plain k (nonce-bytes number last) bytes).0 is).0

@@ -54,7 +54,8 @@ plain_len_is n =
     (λ (more : 1 ≤ j). let longer : 16 < all - 65552 * j = omega arith in rw (lt-ltb 16 (all - 65552 * j) longer, or-true) refl)
     (cases_lt j 1))
 
-module _ (seal_of : Seal) (opened : List ℕ → List ℕ → List ℕ → Option (List ℕ)) (law : IsCipher seal_of opened) (key : List ℕ) (k : AreBytesOf 32 key) where
+module _ (seal_of : Seal) (opened : List ℕ → List ℕ → List ℕ → Option (List ℕ)) (law : IsCipher seal_of opened) (key : List ℕ)
+    (k : AreBytesOf 32 key) where
   -- a cipher has one plaintext for a seal
   pub seal-one : (n p q : List ℕ) → AreBytesOf 12 n → AreBytes p → AreBytes q → seal_of key n p ≡ seal_of key n q → p ≡ q
   seal-one n p q b pb qb e =
@@ -63,16 +64,19 @@ module _ (seal_of : Seal) (opened : List ℕ → List ℕ → List ℕ → Optio
       let other = (law.opens_exactly key n (seal_of key n p) q k b s.bytes).1 (qb, e) in
       cc (one, other)
 
-  pub length-seal : (i : ℕ) (is_last : Bool) (plain : List ℕ) → AreBytes plain → length (seal_of key (chunk_nonce i is_last) plain) ≡ length plain + 16
+  pub length-seal : (i : ℕ) (is_last : Bool) (plain : List ℕ) → AreBytes plain
+      → length (seal_of key (chunk_nonce i is_last) plain) ≡ length plain + 16
   length-seal i is_last plain h = (law.seal_is_longer key (chunk_nonce i is_last) plain k (nonce-bytes i is_last) h).len
 
   -- ---- the seals before the last
 
-  pub middle_seals-front : (n : ℕ) (front rest : List ℕ) → 65536 * n ≤ length front → middle_seals seal_of key (front ++ rest) n ≡ middle_seals seal_of key front n
+  pub middle_seals-front : (n : ℕ) (front rest : List ℕ) → 65536 * n ≤ length front
+      → middle_seals seal_of key (front ++ rest) n ≡ middle_seals seal_of key front n
   middle_seals-front zero front rest h = refl
   middle_seals-front (suc n) front rest h = rw (middle_seals-front n front rest (omega arith), cut-front 65536 n front rest (omega arith)) refl
 
-  pub length-middle_seals : (n : ℕ) (plain : List ℕ) → AreBytes plain → 65536 * n ≤ length plain → length (middle_seals seal_of key plain n) ≡ 65552 * n
+  pub length-middle_seals : (n : ℕ) (plain : List ℕ) → AreBytes plain → 65536 * n ≤ length plain
+      → length (middle_seals seal_of key plain n) ≡ 65552 * n
   length-middle_seals zero plain b h = refl
   length-middle_seals (suc n) plain b h =
       let before = length-middle_seals n plain b (omega arith) in
@@ -113,7 +117,8 @@ module _ (seal_of : Seal) (opened : List ℕ → List ℕ → List ℕ → Optio
       chunk-middle (last_piece (length plain)) i plain _ b (omega arith) l
 
   pub chunk-last : (plain : List ℕ) → AreBytes plain
-      → chunk (last_piece (length plain)) (payload seal_of key plain) ≡ seal_of key (chunk_nonce (last_piece (length plain)) true) (piece (last_piece (length plain)) plain)
+      → chunk (last_piece (length plain)) (payload seal_of key plain)
+      ≡ seal_of key (chunk_nonce (last_piece (length plain)) true) (piece (last_piece (length plain)) plain)
   unfolding payload
   chunk-last plain b =
       let last = last_piece (length plain) in

@@ -54,7 +54,8 @@ pub columns_lf : (l : List ℕ) → Lacks 13 l → line_columns (l ++ 10 ∷ [])
 columns_lf l h = columns_ended l ∙ rw (last_lacks 13 l h) refl
 
 pub columns_crlf : (l : List ℕ) → line_columns (l ++ 13 ∷ 10 ∷ []) ≡ l
-columns_crlf l = ap line_columns (sym (append_assoc l (13 ∷ []) (10 ∷ []))) ∙ columns_ended (l ++ 13 ∷ []) ∙ rw (last_is_end l 13 13, but_last_end l 13) refl
+columns_crlf l = ap line_columns (sym (append_assoc l (13 ∷ []) (10 ∷ []))) ∙ columns_ended (l ++ 13 ∷ [])
+    ∙ rw (last_is_end l 13 13, but_last_end l 13) refl
 
 pub columns_none : (l : List ℕ) → Lacks 10 l → line_columns l ≡ l
 columns_none l h = rw (last_lacks 10 l h) refl

@@ -12,7 +12,8 @@ use Rattle.age_v1.specs.PayloadRefusals.{IsOpenedTo}
 use Rattle.age_v1.proofs.FrontToEnd.{opened_none, opened_more, opened_whole}
 use Rattle.age_v1.proofs.JudgedChunks.{next_place, allowed-accepted, judged-last, opens_chunk}
 
-module _ (seal_of : Seal) (opened : List ℕ → List ℕ → List ℕ → Option (List ℕ)) (law : IsCipher seal_of opened) (key : List ℕ) (k : AreBytesOf 32 key) where
+module _ (seal_of : Seal) (opened : List ℕ → List ℕ → List ℕ → Option (List ℕ)) (law : IsCipher seal_of opened) (key : List ℕ)
+    (k : AreBytesOf 32 key) where
   -- what stands from this chunk on
   abbrev here : ℕ → Stretch → Stretch
   here number s = from_place (65552 * number) s
@@ -37,7 +38,8 @@ module _ (seal_of : Seal) (opened : List ℕ → List ℕ → List ℕ → Optio
 
   -- at most so many chunks are left, and one more
   reopened-by : (count number : ℕ) (s : Stretch) (out : List ℕ) → AreBytes s.bytes → IsOpenedTo seal_of key s.bytes number out →
-      (payload_delivers opened key number (here number s)).ends_well ≡ true → length s.bytes ≤ 65552 * (number + count) + 65552 → IsReopened s number out
+      (payload_delivers opened key number (here number s)).ends_well ≡ true → length s.bytes ≤ 65552 * (number + count) + 65552
+      → IsReopened s number out
   reopened-by zero number s out bytes was well few = reopened-last number s out bytes was well (omega arith)
   reopened-by (suc count) number s out bytes was well few = elim (cases_lt (65552 * number + 65552) (length s.bytes)) [
     | inr few_now ↦ reopened-last number s out bytes was well few_now
@@ -53,7 +55,8 @@ module _ (seal_of : Seal) (opened : List ℕ → List ℕ → List ℕ → Optio
         let later : (payload_delivers opened key (suc number) (here (suc number) s)).ends_well ≡ true = sym (ap (λ d. d.ends_well) is) ∙ well in
         let ih = reopened-by count (suc number) s (out ++ m.0) bytes now later (omega arith) in
         record {
-          bytes = ih.bytes ∙ ap (payload seal_of key) (append_assoc out m.0 (payload_delivers opened key (suc number) (here (suc number) s)).bytes ∙ ap (λ d. out ++ d.bytes) (sym is));
+          bytes = ih.bytes ∙ ap (payload seal_of key)
+              (append_assoc out m.0 (payload_delivers opened key (suc number) (here (suc number) s)).bytes ∙ ap (λ d. out ++ d.bytes) (sym is));
           well = ih.well;
         }
   ]

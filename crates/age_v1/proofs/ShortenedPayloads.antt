@@ -18,7 +18,8 @@ use Rattle.age_v1.proofs.JudgedChunks.{held-judged_middle}
 use Rattle.age_v1.proofs.HonestPayloads.{piece_more, middle-delivered}
 use Rattle.age_v1.proofs.ReopenedPayloads.{payload-delivered}
 
-module _ (seal_of : Seal) (opened : List ℕ → List ℕ → List ℕ → Option (List ℕ)) (law : IsCipher seal_of opened) (key : List ℕ) (k : AreBytesOf 32 key) where
+module _ (seal_of : Seal) (opened : List ℕ → List ℕ → List ℕ → Option (List ℕ)) (law : IsCipher seal_of opened) (key : List ℕ)
+    (k : AreBytesOf 32 key) where
   module _ (plain : List ℕ) (b : AreBytes plain) (most : length plain ≤ 2 ^ 60) (n : ℕ) (fits : n ≤ last_piece (length plain)) where
     abbrev front : List ℕ
     front = take (65552 * n) (payload seal_of key plain)
@@ -29,16 +30,20 @@ module _ (seal_of : Seal) (opened : List ℕ → List ℕ → List ℕ → Optio
     front_from : (count number : ℕ) → number + count ≡ n →
         payload_delivers opened key number (from_place (65552 * number) (whole front)) ≡ from_place (65536 * number) given
     front_from zero number is =
-        let none : drop (65552 * number) front ≡ [] = drop_all (65552 * number) front (omega (arith, length-take (65552 * n) (payload seal_of key plain))) in
-        let no_piece : drop (65536 * number) given.bytes ≡ [] = drop_all (65536 * number) given.bytes (omega (arith, length-take (65536 * n) plain)) in
-        ap (payload_delivers opened key number) (stretch-ext _ (record { bytes = []; ends_well = true }) none refl) ∙ delivered-none opened key number true
+        let none : drop (65552 * number) front ≡ [] =
+        drop_all (65552 * number) front (omega (arith, length-take (65552 * n) (payload seal_of key plain))) in
+        let no_piece : drop (65536 * number) given.bytes ≡ [] =
+        drop_all (65536 * number) given.bytes (omega (arith, length-take (65536 * n) plain)) in
+        ap (payload_delivers opened key number) (stretch-ext _ (record { bytes = []; ends_well = true }) none refl)
+        ∙ delivered-none opened key number true
         ∙ sym (stretch-ext _ nothing no_piece refl)
     front_from (suc count) number is =
         let len = length-payload seal_of opened law key k plain b in
         let before : number < last_piece (length plain) = omega arith in
         let size = length-full_piece number plain (omega arith) in
         let held = held-middle seal_of opened law key k plain number b before in
-        let same : chunk number front ≡ chunk number (payload seal_of key plain) = cut-take 65552 number (65552 * n) (payload seal_of key plain) (omega arith) in
+        let same : chunk number front ≡ chunk number (payload seal_of key plain) =
+        cut-take 65552 number (65552 * n) (payload seal_of key plain) (omega arith) in
         let here : OpensAsMiddle seal_of key front number (piece number plain) = record {
           full = ap length same ∙ held.full;
           bytes = held.bytes;
@@ -58,14 +63,17 @@ module _ (seal_of : Seal) (opened : List ℕ → List ℕ → List ℕ → Optio
 
   -- cut after n chunks, before the last
   pub shortened : (plain : List ℕ) (n : ℕ) → AreBytes plain → length plain ≤ 2 ^ 60 → n ≤ last_piece (length plain) →
-      payload_delivers opened key 0 (whole (take (65552 * n) (payload seal_of key plain))) ≡ record { bytes = take (65536 * n) plain; ends_well = false }
+      payload_delivers opened key 0 (whole (take (65552 * n) (payload seal_of key plain)))
+      ≡ record { bytes = take (65536 * n) plain; ends_well = false }
   shortened plain n b most fits = front_from plain b most n fits n 0 (zero-add n)
 
   -- bytes after a chunk that is held as last
-  pub lengthened : (s : Stretch) (i : ℕ) (last plain : List ℕ) → AreBytes s.bytes → OpensAsLast seal_of key s.bytes i last → 65552 * (i + 1) < length s.bytes →
+  pub lengthened : (s : Stretch) (i : ℕ) (last plain : List ℕ) → AreBytes s.bytes → OpensAsLast seal_of key s.bytes i last
+      → 65552 * (i + 1) < length s.bytes →
       payload_delivers opened key 0 s ≡ whole plain → ⊥
   lengthened s i last plain sb held more is =
-      let b : AreBytes plain = rw (ap (λ d. d.bytes) is) at (delivered-bytes opened key (shorter seal_of opened law key k) (opens_bytes seal_of opened law key k) 0 0 s sb) in
+      let b : AreBytes plain = rw (ap (λ d. d.bytes) is) at (delivered-bytes opened key (shorter seal_of opened law key k)
+      (opens_bytes seal_of opened law key k) 0 0 s sb) in
       let found = payload-delivered seal_of opened law key k s plain sb is in
       let len = length-payload seal_of opened law key k plain b in
       let long : 65552 * (i + 1) < length (payload seal_of key plain) = rw found at more in

@@ -16,7 +16,8 @@ module _ (seal_of : Seal) (key : List ℕ) where
   held-seal false sealed plain i held = (held.bytes, held.is_seal, λ less. absurd (omega (arith, less, held.full)))
 
   -- what one read gives
-  pub stand-given : (sealed : Stretch) (place room : ℕ) (bytes : List ℕ) → Gives seal_of key sealed place room bytes → StandAt seal_of key sealed.bytes place bytes
+  pub stand-given : (sealed : Stretch) (place room : ℕ) (bytes : List ℕ) → Gives seal_of key sealed place room bytes
+      → StandAt seal_of key sealed.bytes place bytes
   stand-given sealed place room bytes gives = λ i within.
       let seal = held-seal gives.last sealed.bytes gives.plain gives.number gives.held in
       record {
@@ -30,7 +31,8 @@ module _ (seal_of : Seal) (key : List ℕ) where
         bytes = seal.0;
         is_seal = seal.1;
         short = seal.2;
-        is = ap (λ xs. get_or xs i 0) gives.are ∙ get_or-take (length bytes) (drop gives.at gives.plain) i 0 within ∙ get_or-drop gives.at gives.plain i 0;
+        is = ap (λ xs. get_or xs i 0) gives.are ∙ get_or-take (length bytes) (drop gives.at gives.plain) i 0 within
+            ∙ get_or-drop gives.at gives.plain i 0;
       }
 
   -- what stands in a plaintext is bytes
@@ -44,7 +46,8 @@ module _ (seal_of : Seal) (key : List ℕ) where
   stand-none sealed place = λ i within. absurd (omega (arith, within))
 
   -- and then more
-  pub stand-joined : (sealed : List ℕ) (place : ℕ) (front back : List ℕ) → StandAt seal_of key sealed place front → StandAt seal_of key sealed (place + length front) back →
+  pub stand-joined : (sealed : List ℕ) (place : ℕ) (front back : List ℕ) → StandAt seal_of key sealed place front
+      → StandAt seal_of key sealed (place + length front) back →
       StandAt seal_of key sealed place (front ++ back)
   stand-joined sealed place front back first second = λ i within. elim (cases_lt i (length front)) [
     | inl less ↦ subst (λ b. IsByteAt seal_of key sealed (place + i) b) (sym (get_or_append_left front back 0 i less)) (first i less)

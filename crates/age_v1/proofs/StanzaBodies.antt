@@ -35,8 +35,12 @@ body_text_ends (suc k) b e =
     let size : length (take 48 b) ≡ 48 = length-take-le 48 b (omega arith) in
     let rest : length (drop 48 b) / 48 ≡ k = omega (arith, length-drop 48 b) in
     let r = body_text_ends k (drop 48 b) rest in
-    let whole : body_text b ≡ line (columns (take 48 b)) ++ body_text (drop 48 b) = ap body_text (sym (take-append-drop 48 b)) ∙ body_text_long (take 48 b) (drop 48 b) size in
-    (line (columns (take 48 b)) ++ r.0, whole ∙ ap (λ t. line (columns (take 48 b)) ++ t) r.1 ∙ sym (append_assoc (line (columns (take 48 b))) r.0 (10 ∷ [])))
+    let whole : body_text b ≡ line (columns (take 48 b)) ++ body_text (drop 48 b) =
+    ap body_text (sym (take-append-drop 48 b)) ∙ body_text_long (take 48 b) (drop 48 b) size in (
+      line (columns (take 48 b)) ++ r.0,
+      whole ∙ ap (λ t. line (columns (take 48 b)) ++ t) r.1
+          ∙ sym (append_assoc (line (columns (take 48 b))) r.0 (10 ∷ [])),
+    )
 
 -- the text of a body, canonical or legacy
 abbrev pub IsBodyText : Bool → List ℕ → List ℕ → Type 0
@@ -91,9 +95,18 @@ module _ (legacy : Bool) where
         | inl h ↦ (p, c, body_text c, size, parts, h ∙ whole, body_lines k (body_text c) c rest (inl refl))
         | inr h ↦
             let ends = body_text_ends k c rest in
-            let eq : line x ≡ line (line (columns p) ++ ends.0) = h.2 ∙ whole ∙ ap (λ t. line (columns p) ++ t) ends.1 ∙ sym (append_assoc (line (columns p)) ends.0 (10 ∷ [])) in
-            let wide : length (columns c) % 64 ≡ 0 = omega (arith, h.1, length-columns b, length-columns c, length-drop 48 b) in
-            (p, c, ends.0, size, parts, append_cancel_right x (line (columns p) ++ ends.0) (10 ∷ []) eq, body_lines k ends.0 c rest (inr (h.0, wide, sym ends.1)))
+            let eq : line x ≡ line (line (columns p) ++ ends.0) =
+            h.2 ∙ whole ∙ ap (λ t. line (columns p) ++ t) ends.1 ∙ sym (append_assoc (line (columns p)) ends.0 (10 ∷ [])) in
+            let wide : length (columns c) % 64 ≡ 0 = omega (arith, h.1, length-columns b, length-columns c, length-drop 48 b) in (
+              p,
+              c,
+              ends.0,
+              size,
+              parts,
+              append_cancel_right x (line (columns p) ++ ends.0) (10 ∷ []) eq,
+              body_lines k ends.0 c rest
+                  (inr (h.0, wide, sym ends.1)),
+            )
       ]
 
   pub same_body : (k l : ℕ) (x y b c r s : List ℕ) → IsBody legacy k x b → IsBody legacy l y c → AreBytes b → AreBytes c → Hyphen r → Hyphen s
@@ -111,13 +124,16 @@ module _ (legacy : Bool) where
   same_body zero zero x y b c r s (small, inr h) (small', inr h') hb hc nr ns e =
       (h.1 ∙ sym h'.1, ap (λ t. t ++ r) (sym h.2) ∙ e ∙ ap (λ t. t ++ s) h'.2)
   same_body zero (suc l) x y b c r s (small, inl h) (q, d, z, size, parts, text, more) hb hc nr ns e =
-      let f : line (columns b) ++ r ≡ line (columns q) ++ (z ++ s) = ap (λ t. t ++ r) (sym h) ∙ e ∙ ap (λ t. t ++ s) text ∙ append_assoc (line (columns q)) z s in
+      let f : line (columns b) ++ r ≡ line (columns q) ++ (z ++ s) =
+      ap (λ t. t ++ r) (sym h) ∙ e ∙ ap (λ t. t ++ s) text ∙ append_assoc (line (columns q)) z s in
       absurd (short_long b q r (z ++ s) small size hb (front_bytes q d (subst AreBytes parts hc)) f)
   same_body zero (suc l) x y b c r s (small, inr h) (q, d, z, size, parts, text, more) hb hc nr ns e =
-      let f : line (columns q) ++ (z ++ s) ≡ r = sym (append_assoc (line (columns q)) z s) ∙ ap (λ t. t ++ s) (sym text) ∙ sym e ∙ ap (λ t. t ++ r) h.2 in
+      let f : line (columns q) ++ (z ++ s) ≡ r =
+      sym (append_assoc (line (columns q)) z s) ∙ ap (λ t. t ++ s) (sym text) ∙ sym e ∙ ap (λ t. t ++ r) h.2 in
       absurd (no_hyphen (columns q) (z ++ s) r (columns_symbols q (front_bytes q d (subst AreBytes parts hc))) nr f)
   same_body (suc k) zero x y b c r s (p, d, z, size, parts, text, more) (small, inl h) hb hc nr ns e =
-      let f : line (columns c) ++ s ≡ line (columns p) ++ (z ++ r) = ap (λ t. t ++ s) (sym h) ∙ sym e ∙ ap (λ t. t ++ r) text ∙ append_assoc (line (columns p)) z r in
+      let f : line (columns c) ++ s ≡ line (columns p) ++ (z ++ r) =
+      ap (λ t. t ++ s) (sym h) ∙ sym e ∙ ap (λ t. t ++ r) text ∙ append_assoc (line (columns p)) z r in
       absurd (short_long c p s (z ++ r) small size hc (front_bytes p d (subst AreBytes parts hb)) f)
   same_body (suc k) zero x y b c r s (p, d, z, size, parts, text, more) (small, inr h) hb hc nr ns e =
       let f : line (columns p) ++ (z ++ r) ≡ s = sym (append_assoc (line (columns p)) z r) ∙ ap (λ t. t ++ r) (sym text) ∙ e ∙ ap (λ t. t ++ s) h.2 in
@@ -125,8 +141,11 @@ module _ (legacy : Bool) where
   same_body (suc k) (suc l) x y b c r s (p, d, z, size, parts, text, more) (q, d', z', size', parts', text', more') hb hc nr ns e =
       let hp = front_bytes p d (subst AreBytes parts hb) in
       let hq = front_bytes q d' (subst AreBytes parts' hc) in
-      let f : line (columns p) ++ (z ++ r) ≡ line (columns q) ++ (z' ++ s) = sym (append_assoc (line (columns p)) z r) ∙ ap (λ t. t ++ r) (sym text) ∙ e ∙ ap (λ t. t ++ s) text' ∙ append_assoc (line (columns q)) z' s in
+      let f : line (columns p) ++ (z ++ r) ≡ line (columns q) ++ (z' ++ s) =
+      sym (append_assoc (line (columns p)) z r) ∙ ap (λ t. t ++ r) (sym text) ∙ e ∙ ap (λ t. t ++ s) text'
+      ∙ append_assoc (line (columns q)) z' s in
       let halves = split_line (columns p) (columns q) (z ++ r) (z' ++ s) (lacks_feed p hp) (lacks_feed q hq) f in
-      let deep = same_body k l z z' d d' r s more more' (back_bytes p d (subst AreBytes parts hb)) (back_bytes q d' (subst AreBytes parts' hc)) nr ns halves.1 in
+      let deep = same_body k l z z' d d' r s more more' (back_bytes p d (subst AreBytes parts hb))
+      (back_bytes q d' (subst AreBytes parts' hc)) nr ns halves.1 in
       let pq : p ≡ q = columns_same p q hp hq halves.0 in
       (parts ∙ ap (λ t. t ++ d) pq ∙ ap (λ t. q ++ t) deep.0 ∙ sym parts', deep.1)

@@ -24,7 +24,8 @@ none-some is = cc
 
 -- ---- what an accepted verdict says
 
-pub record Accepted (opened : List ℕ → List ℕ → List ℕ → Option (List ℕ)) (key : List ℕ) (number : ℕ) (text plain : List ℕ) (last : Bool) : Type 0 where
+pub record Accepted (opened : List ℕ → List ℕ → List ℕ → Option (List ℕ)) (key : List ℕ) (number : ℕ) (text plain : List ℕ)
+    (last : Bool) : Type 0 where
   pub opens : opened key (chunk_nonce number last) text ≡ Some plain
   pub some : 0 < length text
   pub full : last ≡ false → length text ≡ 65552
@@ -58,25 +59,29 @@ abbrev flag_of : Option Chunk → Bool
 flag_of None = false
 flag_of (Some c) = c.1
 
-opened_as-by : (o : Option (List ℕ)) (flag : Bool) (plain : List ℕ) (last : Bool) → option_map {U = Chunk} (λ p. (p, flag)) o ≡ Some (plain, last) → (o ≡ Some plain) × (flag ≡ last)
+opened_as-by : (o : Option (List ℕ)) (flag : Bool) (plain : List ℕ) (last : Bool) → option_map {U = Chunk} (λ p. (p, flag)) o ≡ Some (plain, last)
+    → (o ≡ Some plain) × (flag ≡ last)
 opened_as-by None flag plain last is = none-some is
 opened_as-by (Some p) flag plain last is = (ap (λ o. Some (text_of o)) is, ap flag_of is)
 
 chunk-by : (full : Bool) (middle last_one : Option (List ℕ)) (plain : List ℕ) (last : Bool) →
-    cond full (or_else (option_map {U = Chunk} (λ p. (p, false)) middle) (option_map {U = Chunk} (λ p. (p, true)) last_one)) (option_map {U = Chunk} (λ p. (p, true)) last_one) ≡ Some (plain, last) →
+    cond full (or_else (option_map {U = Chunk} (λ p. (p, false)) middle) (option_map {U = Chunk} (λ p. (p, true)) last_one))
+    (option_map {U = Chunk} (λ p. (p, true)) last_one) ≡ Some (plain, last) →
     ((last ≡ false) × (full ≡ true) × (middle ≡ Some plain)) ⊎ ((last ≡ true) × (last_one ≡ Some plain))
 chunk-by false middle last_one plain last is = let h = opened_as-by last_one true plain last is in inr (sym h.1, h.0)
 chunk-by true None last_one plain last is = let h = opened_as-by last_one true plain last is in inr (sym h.1, h.0)
 chunk-by true (Some p) last_one plain last is = let h = opened_as-by (Some p) false plain last is in inl (sym h.1, refl, h.0)
 
 module _ (opened : List ℕ → List ℕ → List ℕ → Option (List ℕ)) (key : List ℕ) where
-  pub accepted : (number : ℕ) (text plain : List ℕ) (last : Bool) → chunk_of opened key number text ≡ Ok (plain, last) → Accepted opened key number text plain last
+  pub accepted : (number : ℕ) (text plain : List ℕ) (last : Bool) → chunk_of opened key number text ≡ Ok (plain, last)
+      → Accepted opened key number text plain last
   unfolding chunk_of
   accepted number [] plain last is = err-ok is
   accepted number (x ∷ xs) plain last is =
       let text = x ∷ xs in
       let h = allowed_if-by number (opened_chunk opened key number text) (plain, last) is in
-      let how = chunk-by (length text == 65552) (opened key (chunk_nonce number false) text) (opened key (chunk_nonce number true) text) plain last h.0 in
+      let how = chunk-by (length text == 65552) (opened key (chunk_nonce number false) text)
+      (opened key (chunk_nonce number true) text) plain last h.0 in
       record {
         opens = elim how [ inl m ↦ rw m.0 m.2 | inr l ↦ rw l.0 l.1 ];
         some = omega arith;
@@ -106,7 +111,8 @@ module _ (opened : List ℕ → List ℕ → List ℕ → Option (List ℕ)) (ke
       let all : text ++ more ≡ s.bytes = take-append-drop 65552 s.bytes in
       let full : length text ≡ 65552 = omega (arith, length-take 65552 s.bytes) in
       let is = rw all at (delivered-full opened key number text more s.ends_well full) in
-      let by = verdict-by (chunk_of opened key number text) (payload_delivers opened key (suc number) (from_place 65552 s)) (after_last more s.ends_well) (rw is at well) in
+      let by = verdict-by (chunk_of opened key number text) (payload_delivers opened key (suc number) (from_place 65552 s))
+      (after_last more s.ends_well) (rw is at well) in
       elim by [
         | inl m ↦ (m.0, m.1, is ∙ m.2)
         | inr l ↦ absurd (not-last more s.ends_well (omega (arith, length-drop 65552 s.bytes)) l.2)
@@ -126,7 +132,8 @@ module _ (opened : List ℕ → List ℕ → List ℕ → Option (List ℕ)) (ke
   delivered-nothing number = delivered-none number false
 
   short-by : (w : Bool) (v : Result Chunk Error) → (cond w (after_chunk nothing (after_last [] true) v) nothing).ends_well ≡ true →
-      (plain : List ℕ) × (v ≡ Ok (plain, true)) × (cond w (after_chunk nothing (after_last [] true) v) nothing ≡ record { bytes = plain; ends_well = true }) × (w ≡ true)
+      (plain : List ℕ) × (v ≡ Ok (plain, true))
+      × (cond w (after_chunk nothing (after_last [] true) v) nothing ≡ record { bytes = plain; ends_well = true }) × (w ≡ true)
   short-by false v well = false-true well
   short-by true (Err e) well = false-true well
   short-by true (Ok (plain, true)) well = (plain, refl, rw append-nil refl, refl)
@@ -149,18 +156,22 @@ module _ (opened : List ℕ → List ℕ → List ℕ → Option (List ℕ)) (ke
             (by.0, by.1, is ∙ by.2, by.3)
         | inr full ↦
             let is = rw append-nil at (delivered-full opened key number s.bytes [] s.ends_well (omega arith)) in
-            let by = verdict-by (chunk_of opened key number s.bytes) (delivers opened key 0 (suc number) [] s.ends_well) (after_last [] s.ends_well) (rw is at well) in
+            let by = verdict-by (chunk_of opened key number s.bytes) (delivers opened key 0 (suc number) [] s.ends_well)
+            (after_last [] s.ends_well) (rw is at well) in
             elim by [
-              | inl m ↦ false-true (sym (ap (λ d. d.ends_well) (delivered-none (suc number) s.ends_well)) ∙ sym (ap (λ d. d.ends_well) (is ∙ m.2)) ∙ well)
+              | inl m ↦ false-true (sym (ap (λ d. d.ends_well) (delivered-none (suc number) s.ends_well)) ∙ sym (ap (λ d. d.ends_well) (is ∙ m.2))
+                  ∙ well)
               | inr l ↦ (l.0, l.1, is ∙ l.3 ∙ rw (append-nil, and-by [] s.ends_well l.2) refl, and-by [] s.ends_well l.2)
             ]
       ])
 
   module _ (law : Shorter opened key) where
-    full-plain : (number : ℕ) (text plain : List ℕ) → AreBytes text → length text ≡ 65552 → chunk_of opened key number text ≡ Ok (plain, false) → length plain ≡ 65536
+    full-plain : (number : ℕ) (text plain : List ℕ) → AreBytes text → length text ≡ 65552 → chunk_of opened key number text ≡ Ok (plain, false)
+        → length plain ≡ 65536
     full-plain number text plain bytes full is = omega (arith, law number false text plain bytes (accepted number text plain false is).opens)
 
-    from-prepended : (n : ℕ) (plain : List ℕ) (s : Stretch) → length plain ≡ 65536 → from_place (65536 * suc n) (prepend plain s) ≡ from_place (65536 * n) s
+    from-prepended : (n : ℕ) (plain : List ℕ) (s : Stretch) → length plain ≡ 65536
+        → from_place (65536 * suc n) (prepend plain s) ≡ from_place (65536 * n) s
     from-prepended n plain s full =
         let both : 65536 + 65536 * n ≡ 65536 * suc n = omega arith in
         stretch-ext _ _ (ap (λ k. drop k (plain ++ s.bytes)) (sym both) ∙ sym (drop-drop (65536 * n) 65536 (plain ++ s.bytes))
@@ -180,13 +191,15 @@ module _ (opened : List ℕ → List ℕ → List ℕ → Option (List ℕ)) (ke
         let long : 65552 < length s.bytes = omega (arith, more (omega arith)) in
         let m = well-middle number s well long in
         let plain = m.0 in
-        let full = full-plain number (take 65552 s.bytes) plain (All-take (λ x. x < 2 ^ 8) 65552 s.bytes bytes) (omega (arith, length-take 65552 s.bytes)) m.1 in
+        let full = full-plain number (take 65552 s.bytes) plain (All-take (λ x. x < 2 ^ 8) 65552 s.bytes bytes)
+        (omega (arith, length-take 65552 s.bytes)) m.1 in
         let after = from_place 65552 s in
         let after_well : (payload_delivers opened key (suc number) after).ends_well ≡ true = sym (ap (λ d. d.ends_well) m.2) ∙ well in
         let ih = onward n (suc number) after (All-drop (λ x. x < 2 ^ 8) 65552 s.bytes bytes) after_well
         (λ some. omega (arith, more (omega arith), length-drop 65552 s.bytes)) in
         let count : suc number + n ≡ number + suc n = omega arith in
-        ap (λ d. payload_delivers opened key (number + suc n) d) (sym (further n s)) ∙ ap (λ k. payload_delivers opened key k (from_place (65552 * n) after)) (sym count)
+        ap (λ d. payload_delivers opened key (number + suc n) d) (sym (further n s))
+        ∙ ap (λ k. payload_delivers opened key k (from_place (65552 * n) after)) (sym count)
         ∙ ih ∙ sym (ap (from_place (65536 * suc n)) m.2 ∙ from-prepended n plain (payload_delivers opened key (suc number) after) full)
 
     -- ---- the length
@@ -208,17 +221,23 @@ module _ (opened : List ℕ → List ℕ → List ℕ → Option (List ℕ)) (ke
         rw one.2 record {
           less = omega (arith, short, all, none);
           enough = omega (arith, short, all, none);
-          more = λ later. elim (cases_lt 0 (length plain)) [ inl some ↦ omega (arith, short, all, none) | inr empty ↦ absurd (omega (arith, a.first (omega arith), none)) ];
+          more = λ later. elim (cases_lt 0 (length plain)) [
+            | inl some ↦ omega (arith, short, all, none)
+            | inr
+                empty ↦ absurd (omega (arith, a.first (omega arith), none))
+          ];
         }
 
-    pub well-length-by : (count number : ℕ) (s : Stretch) → AreBytes s.bytes → length s.bytes ≤ 65552 * count + 65552 → (payload_delivers opened key number s).ends_well ≡ true →
+    pub well-length-by : (count number : ℕ) (s : Stretch) → AreBytes s.bytes → length s.bytes ≤ 65552 * count + 65552
+        → (payload_delivers opened key number s).ends_well ≡ true →
         HasLength number (length s.bytes) (length (payload_delivers opened key number s).bytes)
     well-length-by zero number s bytes few well = single-length number s bytes (omega arith) well
     well-length-by (suc count) number s bytes few well = elim (cases_lt 65552 (length s.bytes)) [
       | inl long ↦
           let m = well-middle number s well long in
           let plain = m.0 in
-          let full = full-plain number (take 65552 s.bytes) plain (All-take (λ x. x < 2 ^ 8) 65552 s.bytes bytes) (omega (arith, length-take 65552 s.bytes)) m.1 in
+          let full = full-plain number (take 65552 s.bytes) plain (All-take (λ x. x < 2 ^ 8) 65552 s.bytes bytes)
+          (omega (arith, length-take 65552 s.bytes)) m.1 in
           let after = from_place 65552 s in
           let after_well : (payload_delivers opened key (suc number) after).ends_well ≡ true = sym (ap (λ d. d.ends_well) m.2) ∙ well in
           let left = length-drop 65552 s.bytes in
@@ -226,7 +245,8 @@ module _ (opened : List ℕ → List ℕ → List ℕ → Option (List ℕ)) (ke
           let n = length s.bytes in
           let chunks : (n - 1) / 65552 ≡ (length after.bytes - 1) / 65552 + 1 = omega (arith, left) in
           let len : length (payload_delivers opened key number s).bytes ≡ 65536 + length (payload_delivers opened key (suc number) after).bytes =
-          ap (λ d. length d.bytes) m.2 ∙ length-append plain (payload_delivers opened key (suc number) after).bytes ∙ ap (λ k. k + length (payload_delivers opened key (suc number) after).bytes) full in
+          ap (λ d. length d.bytes) m.2 ∙ length-append plain (payload_delivers opened key (suc number) after).bytes
+          ∙ ap (λ k. k + length (payload_delivers opened key (suc number) after).bytes) full in
           rw len record {
             less = omega (arith, ih.less, chunks, left);
             enough = omega (arith, ih.enough, chunks, left);

@@ -28,6 +28,7 @@ same_words v w (x ∷ vs) [] hv hw e =
     let lacks : Lacks 32 (v ++ 32 ∷ join_with_byte 32 (x ∷ vs)) = subst (Lacks 32) (sym e) (Lacks_string 32 (omega arith) w hw.0.1) in
     absurd ((Lacks_right 32 v (32 ∷ join_with_byte 32 (x ∷ vs)) lacks).0 refl)
 same_words v w (x ∷ vs) (y ∷ ws) hv hw e =
-    let r = split_at 32 v w (join_with_byte 32 (x ∷ vs)) (join_with_byte 32 (y ∷ ws)) (Lacks_string 32 (omega arith) v hv.0.1) (Lacks_string 32 (omega arith) w hw.0.1) e in
+    let r = split_at 32 v w (join_with_byte 32 (x ∷ vs)) (join_with_byte 32 (y ∷ ws)) (Lacks_string 32 (omega arith) v hv.0.1)
+    (Lacks_string 32 (omega arith) w hw.0.1) e in
     let deep : (x ≡ y) × (vs ≡ ws) = same_words x y vs ws hv.1 hw.1 r.1 in
     (r.0, cc)

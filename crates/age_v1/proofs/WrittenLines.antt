@@ -21,7 +21,8 @@ lines_parts (suc n) x e =
     let ih = lines_parts n (drop 48 x) (omega (arith, length-drop 48 x)) in
     let onward : drop (48 * n) (drop 48 x) ≡ drop (48 * suc n) x = drop-drop (48 * n) 48 x ∙ ap (λ k. drop k x) place in
     ap (flat_map line) more ∙ ap (λ y. line (padded_columns (take 48 x)) ++ y) ih
-    ∙ sym (append_assoc (line (padded_columns (take 48 x))) (full_lines n (drop 48 x)) (flat_map line (armor_lines (padded_columns (drop (48 * n) (drop 48 x))))))
+    ∙ sym (append_assoc (line (padded_columns (take 48 x))) (full_lines n (drop 48 x))
+    (flat_map line (armor_lines (padded_columns (drop (48 * n) (drop 48 x))))))
     ∙ ap (λ y. (line (padded_columns (take 48 x)) ++ full_lines n (drop 48 x)) ++ flat_map line (armor_lines (padded_columns y))) onward
 
 -- bytes that don't fill a line

@@ -40,8 +40,9 @@ AreEndedLines (l ∷ ls) text = (first : List ℕ) × (rest : List ℕ) × (text
 abbrev pub IsSpace : ℕ → Type 0
 IsSpace b = (b ≡ 32) ⊎ (b ≡ 9) ⊎ (b ≡ 10) ⊎ (b ≡ 12) ⊎ (b ≡ 13)
 
--- The end marker alone, or with LF or CRLF and then any white space. The armor that is written ends with the marker and LF. Readers take more here,
--- as they take CRLF after any line, and nowhere else: so nothing stands before the begin marker.
+-- The end marker and no more; or it with LF or CRLF, and then any white space. The armor that is written ends with the marker and LF.
+-- standard: the strict form of RFC 7468 has one line end here, LF, CRLF or CR, and nothing after it. A CR alone is taken nowhere here, and nothing is
+-- taken before the begin marker.
 abbrev pub IsArmorEnd : List ℕ → Type 0
 IsArmorEnd text = (text ≡ end_marker)
     ⊎ ((ended : List ℕ) × (space : List ℕ) × (text ≡ ended ++ space) × IsEndedLine end_marker ended × AllByRecursion IsSpace space)
@@ -54,8 +55,8 @@ pub record CarriesArmored (text bytes : List ℕ) : Type 0 where
   pub lines : AreEndedLines (begin_marker ∷ armor_lines (padded_columns bytes)) front
   pub ends : IsArmorEnd end
 
--- the bytes themselves, which don't begin with the begin marker: at least 36, as many as that marker and CRLF have, by which a reader tells the two forms
--- apart (every file has more)
+-- The bytes themselves: at least 36, and no begin marker in front. By its first 36 bytes, as
+-- many as that marker and CRLF have, a reader tells the two forms apart. Every file has more.
 pub record CarriesBinary (text bytes : List ℕ) : Type 0 where
   pub size : 36 ≤ length text
   pub no_marker : (rest : List ℕ) → text ≢ begin_marker ++ rest

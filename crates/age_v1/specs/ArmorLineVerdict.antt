@@ -89,7 +89,8 @@ abbrev pub IsLineVerdict : Bool → List ℕ → LineVerdict → Type 0
 IsLineVerdict after_short raw (Refuses InvalidUtf8) = ¬ (IsUtf8 raw)
 IsLineVerdict after_short raw (Refuses LineContainsCr) = IsUtf8 raw × ¬ (Lacks 13 (line_columns raw))
 IsLineVerdict after_short raw Ends = IsClear raw × (line_columns raw ≡ end_marker)
-IsLineVerdict after_short raw (Refuses ShortLineInMiddle) = IsClear raw × (line_columns raw ≢ end_marker) × (after_short ≡ true) × (length (line_columns raw) ≡ 64)
+IsLineVerdict after_short raw (Refuses ShortLineInMiddle) =
+    IsClear raw × (line_columns raw ≢ end_marker) × (after_short ≡ true) × (length (line_columns raw) ≡ 64)
 IsLineVerdict after_short raw (Refuses NotWrappedAt64Chars) =
     (IsClear raw × (line_columns raw ≢ end_marker) × (after_short ≡ true) × (length (line_columns raw) ≢ 64))
     ⊎ (IsFirst after_short raw × (length (line_columns raw) % 4 ≡ 0) × ((length (line_columns raw) ≡ 0) ⊎ (64 < length (line_columns raw))))

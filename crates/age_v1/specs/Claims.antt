@@ -9,17 +9,19 @@ use Rattle.age_v1.specs.File.{IsFileOf, file_text}
 use Rattle.age_v1.specs.Encrypting.{Prepared}
 use Rattle.age_v1.specs.Identities.{CarriesFile}
 
--- Between two states of a writer the file of all that was left of an input was appended, in this form, and the input ended well,
--- within the limit.
--- By the definition that decryptors are proved by it is a file, and the text in either form carries it.
-pub record AppendsFile {W : Type 0} (seal_of : Seal) (appended : W → List ℕ → W → Type 0) (form : List ℕ → List ℕ) (file : Prepared) (input : Stretch) (old new : W) : Type 0 where
+-- What a success of an encryption says. The input ended well, after at most 2^60 bytes; and from the writer's old
+-- state to its new one exactly one text was appended: the file of all that was left of the input, in this form. It
+-- is a file by the definition that decryption uses (`is_file`), and in either form its text carries it (`carries`).
+pub record AppendsFile {W : Type 0} (seal_of : Seal) (appended : W → List ℕ → W → Type 0) (form : List ℕ → List ℕ) (file : Prepared)
+    (input : Stretch) (old new : W) : Type 0 where
   pub ended : IsTrue input.ends_well
   pub within : length input.bytes ≤ 2 ^ 60
   pub is_file : IsFileOf seal_of file.file_key file.stanzas input.bytes (file_text seal_of file.file_key file.stanzas file.nonce input.bytes)
   pub carries : let text = file_text seal_of file.file_key file.stanzas file.nonce input.bytes in AreBytes input.bytes → Carries (form text) text
   pub out : appended old (form (file_text seal_of file.file_key file.stanzas file.nonce input.bytes)) new
 
--- Between two states of a writer the plaintext was appended of a file that all that was left of an input carried, and the input ended well.
+-- What a success of a decryption says. The input ended well, and all that was left of it carried a file; and from the writer's old state to its new
+-- one exactly the plaintext of that file was appended.
 pub record AppendsPlaintext {W : Type 0} (seal_of : Seal) (gives : List ℕ → List StanzaValue → Type 0) (appended : W → List ℕ → W → Type 0)
     (input : Stretch) (old new : W) : Type 0 where
   pub plain : List ℕ

@@ -16,7 +16,8 @@ is_empty (x ∷ xs) = false
 
 -- an empty chunk after others, and a byte at place 2^60, are refused
 abbrev pub allowed : ℕ → Chunk → Result Chunk Error
-allowed number chunk = cond (is_empty chunk.0) (cond (nat_lt 0 number) (Err LastChunkEmpty) (Ok chunk)) (cond (nat_lt number (2 ^ 44)) (Ok chunk) (Err TooLong))
+allowed number chunk = cond (is_empty chunk.0) (cond (nat_lt 0 number) (Err LastChunkEmpty) (Ok chunk))
+    (cond (nat_lt number (2 ^ 44)) (Ok chunk) (Err TooLong))
 
 abbrev pub allowed_if : ℕ → Option Chunk → Result Chunk Error
 allowed_if number None = Err BadChunk
@@ -48,7 +49,8 @@ module _ (opened : List ℕ → List ℕ → List ℕ → Option (List ℕ)) (ke
 
   -- a full text is tried as middle first, then as last; a short one only as last
   abbrev pub opened_chunk : ℕ → List ℕ → Option Chunk
-  opened_chunk number text = cond (length text == 65552) (or_else (opened_as number false text) (opened_as number true text)) (opened_as number true text)
+  opened_chunk number text = cond (length text == 65552) (or_else (opened_as number false text) (opened_as number true text))
+      (opened_as number true text)
 
   -- the verdict on the text of this chunk
   unfoldable pub chunk_of : ℕ → List ℕ → Result Chunk Error

@@ -11,14 +11,14 @@ use Rattle.age_v1.specs.Payload.{Seal, payload, payload_key}
 unfoldable pub file_front : List ℕ → List StanzaValue → List ℕ → List ℕ
 file_front file_key stanzas nonce = header_text stanzas (header_mac file_key (covered_text stanzas)) ++ nonce
 
--- The one text of a file, of a file key, any stanzas, a payload nonce and a plaintext. That the stanzas wrap this file key is said where recipients
--- and identities are.
+-- The text of the file that has this file key, these stanzas, this payload nonce and this plaintext: there is one. That the stanzas wrap the file key
+-- isn't said here, but by `Prepares` of a file that is written, and by `CarriesFile` of one that is read.
 unfoldable pub file_text : Seal → List ℕ → List StanzaValue → List ℕ → List ℕ → List ℕ
 file_text seal_of file_key stanzas nonce plain =
     file_front file_key stanzas nonce ++ payload seal_of (payload_key file_key nonce) plain
 
--- The bytes are a file of this plaintext under this file key: there is a payload nonce for which they are the one text of a file. The stanzas are
--- such as can stand in a header, and one with the tag scrypt is the only one. Nothing is asked of the file key: whoever gives it has 16 bytes.
+-- The bytes are a file of this plaintext under this file key, with these stanzas and some payload nonce. The stanzas can stand in a header, and one
+-- with the tag scrypt is the only one. That the file key has 16 bytes isn't asked here: each that the code handles is a `FileKey`, which has 16.
 pub record IsFileOf (seal_of : Seal) (file_key : List ℕ) (stanzas : List StanzaValue) (plain bytes : List ℕ) : Type 0 where
   pub nonce : List ℕ
   pub header : IsHeader stanzas (header_mac file_key (covered_text stanzas))

@@ -68,4 +68,5 @@ covered text = take (length text - 45) text
 -- the text of a body by lines: so many of 48 bytes, and a last one, which the legacy form leaves out where it is empty
 abbrev pub IsBody : Bool → ℕ → List ℕ → List ℕ → Type 0
 IsBody legacy zero x b = (length b < 48) × ((x ≡ line (columns b)) ⊎ ((legacy ≡ true) × (b ≡ []) × (x ≡ [])))
-IsBody legacy (suc k) x b = (p : List ℕ) × (c : List ℕ) × (y : List ℕ) × (length p ≡ 48) × (b ≡ p ++ c) × (x ≡ line (columns p) ++ y) × IsBody legacy k y c
+IsBody legacy (suc k) x b = (p : List ℕ) × (c : List ℕ) × (y : List ℕ) × (length p ≡ 48) × (b ≡ p ++ c) × (x ≡ line (columns p) ++ y)
+    × IsBody legacy k y c

@@ -27,7 +27,8 @@ FirstOf {S} {X} {A} asks before (x ∷ xs) answer after =
 abbrev pub Steady : {S X A : Type 0} → (S → X → Option A → Type 0) → S → X → Option A → S → Type 0
 Steady asks before x answer after = asks before x answer × (after ≡ before)
 
--- what an identity may do with several stanzas: by its relation on lists, or stanza by stanza
+-- how an identity may answer to several stanzas: as `unwraps` says of the whole list, or as it says of each stanza alone, where the first that gets
+-- an answer decides
 abbrev pub Unwraps : {S X A : Type 0} → (S → List X → Option A → S → Type 0) → S → List X → Option A → S → Type 0
 Unwraps unwraps before stanzas answer after =
     unwraps before stanzas answer after ⊎ FirstOf (λ s x. unwraps s (x ∷ [])) before stanzas answer after
@@ -54,8 +55,9 @@ abbrev pub decided : UnwrapAnswer → Result (List ℕ) DecryptRefusal
 decided None = Err NoMatchingKeys
 decided (Some answer) = answer
 
--- asked in turn for these stanzas, the identities come to this answer, that of the first one that answers, and are so afterwards
-abbrev pub AnswersFirst : {I : Type 0} → (I → List StanzaValue → UnwrapAnswer → I → Type 0) → List I → List I → List StanzaValue → UnwrapAnswer → Type 0
+-- asked in turn for these stanzas, the identities go from the old states to the new ones, and the first that answers gives this answer
+abbrev pub AnswersFirst : {I : Type 0} → (I → List StanzaValue → UnwrapAnswer → I → Type 0) → List I → List I → List StanzaValue → UnwrapAnswer
+    → Type 0
 AnswersFirst unwraps old new stanzas answer = FirstThatAnswers (λ identity own after. Unwraps unwraps identity stanzas own after) old answer new
 
 -- and that answer is this file key
@@ -67,8 +69,8 @@ abbrev pub FirstAnswer : {I : Type 0} → (I → List StanzaValue → UnwrapAnsw
 FirstAnswer {I} unwraps identities stanzas answer =
     (after : List I) × FirstThatAnswers (λ identity own then. Unwraps unwraps identity stanzas own then) identities answer after
 
--- The bytes are a file of the plaintext, under the file key that is answered to its stanzas unless memory is refused. A full last
--- chunk doesn't open as one in the middle too, which no law of a suite says.
+-- The bytes are a file of the plaintext, for identities that answer so: to its stanzas they answer its file key, or memory is refused. The plaintext
+-- has at most 2^60 bytes, and its last chunk, where it is full, doesn't open as one in the middle too, which no law of a suite says.
 pub record IsFileFor (seal_of : Seal) (answers : List StanzaValue → UnwrapAnswer → Type 0) (plain text : List ℕ) : Type 0 where
   pub file_key : List ℕ
   pub stanzas : List StanzaValue

@@ -5,7 +5,8 @@ use Rattle.age_error.specs.Bytes.{AreBytes}
 use Rattle.age_suite.specs.Mac.{hkdf_of}
 use Rattle.std.specs.Int.{bytes_high_first}
 
--- a cipher: of a key, a nonce and a plaintext, in this order, their seal, which is the ciphertext with its tag; there are no additional data
+-- what a cipher makes of a key, a nonce and a plaintext, in this order: their seal, which is the ciphertext and then the tag; there are no additional
+-- data. A piece is a part of a plaintext, and a chunk is the seal of a piece.
 -- standard: each chunk is encrypted with ChaCha20-Poly1305, using the payload key and a nonce of 12 bytes
 abbrev pub Seal : Type 0
 Seal = List ℕ → List ℕ → List ℕ → List ℕ
@@ -19,7 +20,8 @@ cut size i xs = take size (drop (size * i) xs)
 abbrev pub piece : ℕ → List ℕ → List ℕ
 piece i plain = cut 65536 i plain
 
--- the number of the last piece of n bytes: no empty piece follows a full last one, and a plaintext of no bytes has one piece, number 0, which is empty
+-- the number of the last piece of n bytes: no empty piece follows a full last
+-- one, and a plaintext of no bytes has one piece, number 0, which is empty
 -- standard: the final chunk may be shorter than 64 KiB, but isn't empty unless the whole payload is
 abbrev pub last_piece : ℕ → ℕ
 last_piece n = (n - 1) / 65536
@@ -37,8 +39,8 @@ middle_seals seal_of key plain zero = []
 middle_seals seal_of key plain (suc i) =
     middle_seals seal_of key plain i ++ seal_of key (chunk_nonce i false) (piece i plain)
 
--- The payload of a plaintext: the seals of its pieces in order, the last one under the nonce of a last chunk. The standard counts the payload nonce,
--- the 16 bytes before the first chunk, to the payload; here it is the end of the file's front.
+-- The payload of a plaintext: the seals of its pieces in order, the last one under the nonce of a last chunk. In the standard the payload begins with
+-- the payload nonce of 16 bytes; here that nonce is the end of `file_front`.
 -- standard: each chunk is encrypted under its nonce, the final one under that of the final chunk
 unfoldable pub payload : Seal → List ℕ → List ℕ → List ℕ
 payload seal_of key plain =
@@ -81,8 +83,9 @@ pub record EndsAsLast (seal_of : Seal) (key sealed : List ℕ) : Type 0 where
   pub bytes : AreBytes plain
   pub is_seal : let last = final_chunk (length sealed) in chunk last sealed ≡ seal_of key (chunk_nonce last true) plain
 
--- A premise, and no part of the standard: where the last piece of a plaintext is full, its seal under the nonce of a last chunk isn't the seal of some bytes
--- under that of a middle chunk too. A reader tries a full chunk as a middle one first.
+-- A premise of what is said of honest files, and no part of the standard: a full last chunk doesn't open under its nonce as a middle chunk too. A
+-- reader tries a full chunk as a middle one first. Under a fresh key of ChaCha20-Poly1305 it fails by a chance of about 2^-128; who knows the key can
+-- make a plaintext for which it fails. What a success of decryption says doesn't need it.
 unfoldable pub LastIsNoMiddle : Seal → List ℕ → List ℕ → Type 0
 LastIsNoMiddle seal_of key plain =
     let last = last_piece (length plain) in
@@ -98,8 +101,7 @@ plain_len n =
     let rest = n - 65552 * last in
     if nat_le 16 rest && (nat_eq last 0 || nat_lt 16 rest) then Some (n - 16 * (last + 1)) else None
 
--- the key of the payload, one for the whole file: of the file key and of the payload nonce, the 16 bytes before the first chunk, which are no
--- chunk's nonce
+-- the payload key, one for the whole file: it is made of the file key and of the payload nonce, 16 bytes, which has nothing to do with `chunk_nonce`
 -- standard: "Payload": HKDF-SHA-256 of the file key, with the payload nonce as the salt and the info "payload"
 unfoldable pub payload_key : List ℕ → List ℕ → List ℕ
 payload_key file_key payload_nonce = hkdf_of payload_nonce (codes "payload") file_key

@@ -14,11 +14,11 @@ pub record Wrapped : Type 0 where
 abbrev pub WrapAnswer : Type 0
 WrapAnswer = Result Wrapped EncryptRefusal
 
--- a set of labels: its texts in order, each once
+-- a set of labels, each a text, in order and once: only recipients with the same set may have a file together (age's plugin specification)
 abbrev pub Labels : Type 0
 Labels = List (List ℕ)
 
--- what the recipients so far come to: the labels that they share, where there was one, and all their stanzas
+-- what the recipients asked so far come to: the labels that all of them gave, None before the first, and all their stanzas
 pub record Gathered : Type 0 where
   pub labels : Option Labels
   pub stanzas : List StanzaValue

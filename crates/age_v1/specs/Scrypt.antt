@@ -54,7 +54,8 @@ module _ (seal_of : List ℕ → List ℕ → List ℕ → List ℕ) (stretch_of
   wrapped_under recipient file_key salt label =
       if accepts recipient.factor then
       Ok (record {
-        stanzas = scrypt_stanza salt recipient.factor (seal_of (stretch_of recipient.passphrase (stretch_salt salt) recipient.factor) no_nonce file_key) ∷ [];
+        stanzas = scrypt_stanza salt recipient.factor
+            (seal_of (stretch_of recipient.passphrase (stretch_salt salt) recipient.factor) no_nonce file_key) ∷ [];
         labels = columns label ∷ [];
       })
       else Err WorkFactorRefused

@@ -47,30 +47,37 @@ module _ (xs ys : List ℕ) (lx : length xs ≡ 16) (ly : length ys ≡ 16) wher
   middles : pick_l 0 (xs ++ ys) middle_places ≡ take 8 (drop 4 xs) ++ take 8 ys
   middles =
       (λ i. pick_l-range_with_len 0 (xs ++ ys) 4 8 (omega (arith, both)) i ++ pick_l-range_with_len 0 (xs ++ ys) 16 8 (omega (arith, both)) i)
-      ∙ (λ i. (ap (take 8) (drop-append-le 4 xs ys (omega (arith, lx))) ∙ take-append-le 8 (drop 4 xs) ys (omega (arith, length-drop 4 xs, lx))) i ++ behind 8 i)
+      ∙ (λ i. (ap (take 8) (drop-append-le 4 xs ys (omega (arith, lx))) ∙ take-append-le 8 (drop 4 xs) ys (omega (arith, length-drop 4 xs, lx))) i
+      ++ behind 8 i)
 
   lasts : pick_l 0 (xs ++ ys) last_places ≡ take 4 (drop 8 xs) ++ take 12 ys
   lasts =
       (λ i. pick_l-range_with_len 0 (xs ++ ys) 8 4 (omega (arith, both)) i ++ pick_l-range_with_len 0 (xs ++ ys) 16 12 (omega (arith, both)) i)
-      ∙ (λ i. (ap (take 4) (drop-append-le 8 xs ys (omega (arith, lx))) ∙ take-append-le 4 (drop 8 xs) ys (omega (arith, length-drop 8 xs, lx))) i ++ behind 12 i)
+      ∙ (λ i. (ap (take 4) (drop-append-le 8 xs ys (omega (arith, lx))) ∙ take-append-le 4 (drop 8 xs) ys (omega (arith, length-drop 8 xs, lx))) i
+      ++ behind 12 i)
 
 -- three vectors that fill a line
 three_written : (old x y z : List ℕ) → length old ≡ 48 → length x ≡ 16 → length y ≡ 16 → length z ≡ 16
-    → put_mid 32 16 (put_mid 16 16 (put_chunk 0 (take 16 old) x ++ post_of 0 16 old) (put_chunk 0 (take 16 (drop 16 (put_chunk 0 (take 16 old) x ++ post_of 0 16 old))) y))
-    (put_chunk 0 (take 16 (drop 32 (put_mid 16 16 (put_chunk 0 (take 16 old) x ++ post_of 0 16 old) (put_chunk 0 (take 16 (drop 16 (put_chunk 0 (take 16 old) x ++ post_of 0 16 old))) y)))) z)
+    → put_mid 32 16 (put_mid 16 16 (put_chunk 0 (take 16 old) x ++ post_of 0 16 old)
+    (put_chunk 0 (take 16 (drop 16 (put_chunk 0 (take 16 old) x ++ post_of 0 16 old))) y))
+    (put_chunk 0 (take 16 (drop 32 (put_mid 16 16 (put_chunk 0 (take 16 old) x ++ post_of 0 16 old)
+    (put_chunk 0 (take 16 (drop 16 (put_chunk 0 (take 16 old) x ++ post_of 0 16 old))) y)))) z)
     ≡ (x ++ y) ++ z
 three_written old x y z long lx ly lz =
     let front : put_chunk 0 (take 16 old) x ≡ x = put_chunk_whole (take 16 old) x (length-take-le 16 old (omega (arith, long)) ∙ sym lx) in
     let one : List ℕ = put_chunk 0 (take 16 old) x ++ post_of 0 16 old in
     let l0 : length (put_chunk 0 (take 16 old) x) ≡ 16 = ap length front ∙ lx in
     let l1 : length one ≡ 48 = kept 0 16 old (put_chunk 0 (take 16 old) x) (omega (arith, long)) l0 ∙ long in
-    let middle : put_chunk 0 (take 16 (drop 16 one)) y ≡ y = put_chunk_whole (take 16 (drop 16 one)) y (length-take-le 16 (drop 16 one) (omega (arith, length-drop 16 one, l1)) ∙ sym ly) in
+    let middle : put_chunk 0 (take 16 (drop 16 one)) y ≡ y =
+    put_chunk_whole (take 16 (drop 16 one)) y (length-take-le 16 (drop 16 one) (omega (arith, length-drop 16 one, l1)) ∙ sym ly) in
     let two : List ℕ = put_mid 16 16 one (put_chunk 0 (take 16 (drop 16 one)) y) in
     let lm : length (put_chunk 0 (take 16 (drop 16 one)) y) ≡ 16 = ap length middle ∙ ly in
     let l2 : length two ≡ 48 = kept 16 16 one (put_chunk 0 (take 16 (drop 16 one)) y) (omega (arith, l1)) lm ∙ l1 in
-    let back : put_chunk 0 (take 16 (drop 32 two)) z ≡ z = put_chunk_whole (take 16 (drop 32 two)) z (length-take-le 16 (drop 32 two) (omega (arith, length-drop 32 two, l2)) ∙ sym lz) in
+    let back : put_chunk 0 (take 16 (drop 32 two)) z ≡ z =
+    put_chunk_whole (take 16 (drop 32 two)) z (length-take-le 16 (drop 32 two) (omega (arith, length-drop 32 two, l2)) ∙ sym lz) in
     let lb : length (put_chunk 0 (take 16 (drop 32 two)) z) ≡ 16 = ap length back ∙ lz in
-    let l3 : length (put_mid 32 16 two (put_chunk 0 (take 16 (drop 32 two)) z)) ≡ 48 = kept 32 16 two (put_chunk 0 (take 16 (drop 32 two)) z) (omega (arith, l2)) lb ∙ l2 in
+    let l3 : length (put_mid 32 16 two (put_chunk 0 (take 16 (drop 32 two)) z)) ≡ 48 =
+    kept 32 16 two (put_chunk 0 (take 16 (drop 32 two)) z) (omega (arith, l2)) lb ∙ l2 in
     sym (take_all 48 (put_mid 32 16 two (put_chunk 0 (take 16 (drop 32 two)) z)) (omega (arith, l3)))
     ∙ take-put_mid 32 16 two (put_chunk 0 (take 16 (drop 32 two)) z) 48 (omega (arith, lb)) (omega (arith, l2))
     ∙ (λ i. (take-put_mid 16 16 one (put_chunk 0 (take 16 (drop 16 one)) y) 32 (omega (arith, lm)) (omega (arith, l1))
@@ -97,10 +104,13 @@ module _ (a b c d old : List ℕ) (la : length a ≡ 16) (lb : length b ≡ 16) 
       regrouped : (p q r s t u : List ℕ) → ((p ++ q) ++ (r ++ s)) ++ (t ++ u) ≡ ((p ++ (q ++ r)) ++ (s ++ t)) ++ u
       regrouped p q r s t u =
           sym (append_assoc ((p ++ q) ++ (r ++ s)) t u)
-          ∙ ap (λ l. l ++ u) (ap (λ l. l ++ t) (sym (append_assoc (p ++ q) r s)) ∙ append_assoc ((p ++ q) ++ r) s t ∙ ap (λ l. l ++ (s ++ t)) (append_assoc p q r))
+          ∙ ap (λ l. l ++ u) (ap (λ l. l ++ t) (sym (append_assoc (p ++ q) r s)) ∙ append_assoc ((p ++ q) ++ r) s t
+          ∙ ap (λ l. l ++ (s ++ t)) (append_assoc p q r))
 
-  pub line_written : put_mid 32 16 (put_mid 16 16 (put_chunk 0 (take 16 old) x ++ post_of 0 16 old) (put_chunk 0 (take 16 (drop 16 (put_chunk 0 (take 16 old) x ++ post_of 0 16 old))) y))
-      (put_chunk 0 (take 16 (drop 32 (put_mid 16 16 (put_chunk 0 (take 16 old) x ++ post_of 0 16 old) (put_chunk 0 (take 16 (drop 16 (put_chunk 0 (take 16 old) x ++ post_of 0 16 old))) y)))) z)
+  pub line_written : put_mid 32 16 (put_mid 16 16 (put_chunk 0 (take 16 old) x ++ post_of 0 16 old)
+      (put_chunk 0 (take 16 (drop 16 (put_chunk 0 (take 16 old) x ++ post_of 0 16 old))) y))
+      (put_chunk 0 (take 16 (drop 32 (put_mid 16 16 (put_chunk 0 (take 16 old) x ++ post_of 0 16 old)
+      (put_chunk 0 (take 16 (drop 16 (put_chunk 0 (take 16 old) x ++ post_of 0 16 old))) y)))) z)
       ≡ ((take 12 a ++ take 12 b) ++ take 12 c) ++ take 12 d
   line_written = three_written old x y z long refl refl refl ∙ groups
 
@@ -125,7 +135,8 @@ quarter : (columns : List ℕ) (n : ℕ) → take 16 (take 16 (drop n columns)) 
 quarter columns n = take-take 16 16 (drop n columns) (omega arith)
 
 quarters : (columns : List ℕ) → length columns ≡ 64
-    → ((take 16 (take 16 columns) ++ take 16 (take 16 (drop 16 columns))) ++ take 16 (take 16 (drop 32 columns))) ++ take 16 (take 16 (drop 48 columns)) ≡ columns
+    → ((take 16 (take 16 columns) ++ take 16 (take 16 (drop 16 columns))) ++ take 16 (take 16 (drop 32 columns)))
+    ++ take 16 (take 16 (drop 48 columns)) ≡ columns
 quarters columns long =
     (λ i. ((quarter columns 0 i ++ quarter columns 16 i) ++ quarter columns 32 i) ++ quarter columns 48 i)
     ∙ ap (λ l. (l ++ take 16 (drop 32 columns)) ++ take 16 (drop 48 columns)) (sym (take-add 16 16 columns))
@@ -139,7 +150,8 @@ pub line_decoded : (columns new a b c d : List ℕ) → length columns ≡ 64 �
     → padded_columns new ≡ columns
 line_decoded columns new a b c d long la lb lc is ia ib ic id =
     ap padded_columns is
-    ∙ columns_of_groups (take 12 a) (take 12 b) (take 12 c) (take 12 d) (length-take-le 12 a (omega (arith, la))) (length-take-le 12 b (omega (arith, lb))) (length-take-le 12 c (omega (arith, lc)))
+    ∙ columns_of_groups (take 12 a) (take 12 b) (take 12 c) (take 12 d) (length-take-le 12 a (omega (arith, la)))
+    (length-take-le 12 b (omega (arith, lb))) (length-take-le 12 c (omega (arith, lc)))
     ∙ (λ i. ((ia i ++ ib i) ++ ic i) ++ id i) ∙ quarters columns long
 
 -- base64 of whole groups has no faults
@@ -179,7 +191,8 @@ line_at content columns n fits is =
     let columns_full : length (padded_columns one) ≡ 64 = omega (arith, full, length-padded_columns one) in
     let whole : padded_columns content ≡ padded_columns front ++ (padded_columns one ++ more) =
     ap padded_columns (sym (take-append-drop (48 * n) content)) ∙ padded_columns-append front rest (omega (arith, before))
-    ∙ ap (λ z. padded_columns front ++ z) (ap padded_columns (sym (take-append-drop 48 rest)) ∙ padded_columns-append one (drop 48 rest) (omega (arith, full))) in
+    ∙ ap (λ z. padded_columns front ++ z) (ap padded_columns (sym (take-append-drop 48 rest))
+    ∙ padded_columns-append one (drop 48 rest) (omega (arith, full))) in
     sym (ap (λ z. take 64 (drop (64 * n) z)) (sym is ∙ whole)
     ∙ ap (take 64) (drop_at (padded_columns front) (padded_columns one ++ more) (64 * n) columns_before)
     ∙ take_at (padded_columns one) more 64 columns_full)
@@ -189,7 +202,8 @@ line_bytes content n bytes =
     below_at (take 48 (drop n content)) (Each1-chunk (λ x. x < 256) n 48 content (Each1-from_get_or (λ x. x < 256) content 0 (λ i h. bytes i)))
 
 pub pairs_below : (xs pairs : List ℕ) → length xs ≡ 16 → Each1 (λ index. index < 64) xs
-    → ((j : ℕ) → j < 8 → slice_index pairs j ≡ 64 * slice_index xs (2 * j) + slice_index xs (2 * j + 1)) → (j : ℕ) → j < 8 → slice_index pairs j < 4096
+    → ((j : ℕ) → j < 8 → slice_index pairs j ≡ 64 * slice_index xs (2 * j) + slice_index xs (2 * j + 1)) → (j : ℕ) → j < 8
+    → slice_index pairs j < 4096
 pairs_below xs pairs long small paired j h =
     let one : slice_index xs (2 * j) < 64 = Each1-get_or (λ index. index < 64) xs (2 * j) 0 (omega (arith, long)) small in
     let two : slice_index xs (2 * j + 1) < 64 = Each1-get_or (λ index. index < 64) xs (2 * j + 1) 0 (omega (arith, long)) small in

@@ -50,7 +50,8 @@ faults_are zero (x ∷ xs) e = absurd (omega arith)
 faults_are (suc n) [] e = absurd (omega arith)
 faults_are (suc n) (x ∷ xs) e = λ i. bit_and (slice_index of_low (and_mask x 4 i)) (slice_index of_high (x / 16)) ∷ faults_are n xs (omega arith) i
 
-pub faults_of : (xs low high : List ℕ) → length xs ≡ 16 → low ≡ looked_up of_low (lows 16 xs) → high ≡ looked_up of_high (highs 16 xs) → zip2 bit_and low high ≡ map fault_of xs
+pub faults_of : (xs low high : List ℕ) → length xs ≡ 16 → low ≡ looked_up of_low (lows 16 xs) → high ≡ looked_up of_high (highs 16 xs)
+    → zip2 bit_and low high ≡ map fault_of xs
 faults_of xs low high e is_low is_high = (λ i. zip2 bit_and (is_low i) (is_high i)) ∙ faults_are 16 xs e
 
 -- where the distances stand, as they are computed
@@ -71,7 +72,8 @@ places_are (suc n) (x ∷ xs) e = ap (λ l. place x ∷ l) (places_are n xs (ome
 
 -- each byte is tested
 passes : ℕ → Bool
-passes c = nat_lt (place c) 16 && (place c == place_of c) && (not (fault_of c == 0) || (nat_lt (index_of c) 64 && (slice_index symbols (index_of c) == c)))
+passes c = nat_lt (place c) 16 && (place c == place_of c)
+    && (not (fault_of c == 0) || (nat_lt (index_of c) 64 && (slice_index symbols (index_of c) == c)))
 
 all_pass : all_below passes 256 ≡ true
 unfolding passes place place_of fault_of index_of
@@ -80,14 +82,16 @@ all_pass = refl
 placed : (c : ℕ) → c < 256 → (place c < 16) × (place c ≡ place_of c)
 unfolding passes
 placed c h =
-    let all = and_parts (nat_lt (place c) 16 && (place c == place_of c)) (not (fault_of c == 0) || (nat_lt (index_of c) 64 && (slice_index symbols (index_of c) == c))) (all_below_at passes 256 c all_pass h) in
+    let all = and_parts (nat_lt (place c) 16 && (place c == place_of c))
+    (not (fault_of c == 0) || (nat_lt (index_of c) 64 && (slice_index symbols (index_of c) == c))) (all_below_at passes 256 c all_pass h) in
     let both = and_parts (nat_lt (place c) 16) (place c == place_of c) all.0 in
     (ltb-true (place c) 16 both.0, eqb-true (place c) (place_of c) both.1)
 
 symbol_of : (c : ℕ) → c < 256 → fault_of c ≡ 0 → (index_of c < 64) × (slice_index symbols (index_of c) ≡ c)
 unfolding passes
 symbol_of c h none =
-    let all = and_parts (nat_lt (place c) 16 && (place c == place_of c)) (not (fault_of c == 0) || (nat_lt (index_of c) 64 && (slice_index symbols (index_of c) == c))) (all_below_at passes 256 c all_pass h) in
+    let all = and_parts (nat_lt (place c) 16 && (place c == place_of c))
+    (not (fault_of c == 0) || (nat_lt (index_of c) 64 && (slice_index symbols (index_of c) == c))) (all_below_at passes 256 c all_pass h) in
     let clear : (fault_of c == 0) ≡ true = eq-eqb (fault_of c) 0 none in
     let is : (nat_lt (index_of c) 64 && (slice_index symbols (index_of c) == c)) ≡ true
     = subst (λ b. (not b || (nat_lt (index_of c) 64 && (slice_index symbols (index_of c) == c))) ≡ true) clear all.1 in
@@ -235,4 +239,6 @@ module _ (a b c d fa fb fc fd : List ℕ) (la : length a ≡ 16) (lb : length b 
       let zb = subst IsZero (sym is_b) (faultless_to b hb) in
       let zc = subst IsZero (sym is_c) (faultless_to c hc) in
       let zd = subst IsZero (sym is_d) (faultless_to d hd) in
-      eq-eqb (mask_l (flags 16 all) % 2 ^ 64) 0 (whole ∙ none_set 16 all size (both_zero (zip2 bit_or (zip2 bit_or fa fb) fc) fd (both_zero (zip2 bit_or fa fb) fc (both_zero fa fb za zb) zc) zd))
+      eq-eqb (mask_l (flags 16 all) % 2 ^ 64) 0
+      (whole ∙ none_set 16 all size (both_zero (zip2 bit_or (zip2 bit_or fa fb) fc) fd
+      (both_zero (zip2 bit_or fa fb) fc (both_zero fa fb za zb) zc) zd))

@@ -46,7 +46,8 @@ pairs_are xs long fits small j h =
     let w = get_or xs (2 * j + 1) 0 in
     let hv : v < 64 = Each1-get_or (λ index. index < 64) xs (2 * j) 0 (omega (arith, long)) small in
     let hw : w < 64 = Each1-get_or (λ index. index < 64) xs (2 * j + 1) 0 (omega (arith, long)) small in
-    let is : get_or words j 0 ≡ v + 256 * (w + 256 * 0) = get_or_wider 256 2 (2 ^ 16) 8 xs j refl fits h ∙ two_of 256 xs (2 * j) (omega (arith, long)) in
+    let is : get_or words j 0 ≡ v + 256 * (w + 256 * 0) =
+    get_or_wider 256 2 (2 ^ 16) 8 xs j refl fits h ∙ two_of 256 xs (2 * j) (omega (arith, long)) in
     summed-at 8 16 8 6 words j refl h ∙ ap (λ n. (n % 2 ^ 8 * 2 ^ 6 % 2 ^ 16 + n / 2 ^ 8) % 2 ^ 16) is ∙ omega (arith, hv, hw)
 
 -- a number's digits have its value
@@ -75,7 +76,8 @@ groups_are xs long fits small k h =
     let hv : v < 4096 = small (2 * k) (omega arith) in
     let hw : w < 4096 = small (2 * k + 1) (omega arith) in
     let words = digits_l (2 ^ 32) 4 (number_l (2 ^ 16) xs) in
-    let is : get_or words k 0 ≡ v + 2 ^ 16 * (w + 2 ^ 16 * 0) = get_or_wider (2 ^ 16) 2 (2 ^ 32) 4 xs k refl fits h ∙ two_of (2 ^ 16) xs (2 * k) (omega (arith, long)) in
+    let is : get_or words k 0 ≡ v + 2 ^ 16 * (w + 2 ^ 16 * 0) =
+    get_or_wider (2 ^ 16) 2 (2 ^ 32) 4 xs k refl fits h ∙ two_of (2 ^ 16) xs (2 * k) (omega (arith, long)) in
     ap (λ n. slice_index (summed 4 32 16 12 (digits_l (2 ^ 32) 4 n)) k) same
     ∙ summed-at 4 32 16 12 words k refl h ∙ ap (λ n. (n % 2 ^ 16 * 2 ^ 12 % 2 ^ 32 + n / 2 ^ 16) % 2 ^ 32) is ∙ omega (arith, hv, hw)
   where
@@ -95,10 +97,12 @@ abbrev byte_places : List ℕ
 byte_places = 2 ∷ 1 ∷ 0 ∷ 6 ∷ 5 ∷ 4 ∷ 10 ∷ 9 ∷ 8 ∷ 14 ∷ 13 ∷ 12 ∷ 3 ∷ 3 ∷ 3 ∷ 3 ∷ []
 
 picked : (bytes : List ℕ) (k : ℕ) → k < 4
-    → (get_or (pick_l 0 bytes byte_places) (3 * k) 0 ≡ get_or bytes (4 * k + 2) 0) × (get_or (pick_l 0 bytes byte_places) (3 * k + 1) 0 ≡ get_or bytes (4 * k + 1) 0)
+    → (get_or (pick_l 0 bytes byte_places) (3 * k) 0 ≡ get_or bytes (4 * k + 2) 0)
+    × (get_or (pick_l 0 bytes byte_places) (3 * k + 1) 0 ≡ get_or bytes (4 * k + 1) 0)
     × (get_or (pick_l 0 bytes byte_places) (3 * k + 2) 0 ≡ get_or bytes (4 * k + 0) 0)
 picked bytes = each_group (λ k.
-    (get_or (pick_l 0 bytes byte_places) (3 * k) 0 ≡ get_or bytes (4 * k + 2) 0) × (get_or (pick_l 0 bytes byte_places) (3 * k + 1) 0 ≡ get_or bytes (4 * k + 1) 0)
+    (get_or (pick_l 0 bytes byte_places) (3 * k) 0 ≡ get_or bytes (4 * k + 2) 0)
+    × (get_or (pick_l 0 bytes byte_places) (3 * k + 1) 0 ≡ get_or bytes (4 * k + 1) 0)
     × (get_or (pick_l 0 bytes byte_places) (3 * k + 2) 0 ≡ get_or bytes (4 * k + 0) 0))
     (refl, refl, refl) (refl, refl, refl) (refl, refl, refl) (refl, refl, refl)
 
@@ -117,7 +121,8 @@ bytes_are groups fits k h =
     = λ i l. get_or_narrower (2 ^ 32) 4 256 16 groups k i refl fits l (omega arith) in (
       ap (λ l. get_or l (3 * k) 0) left ∙ at.0 ∙ byte 2 (lit< tt),
       ap (λ l. get_or l (3 * k + 1) 0) left ∙ at.1 ∙ byte 1 (lit< tt),
-      ap (λ l. get_or l (3 * k + 2) 0) left ∙ at.2 ∙ byte 0 (lit< tt) ∙ ap (λ m. get_or groups k 0 / m % 256) (pow-zero 256) ∙ ap (λ m. m % 256) (div-one (get_or groups k 0)),
+      ap (λ l. get_or l (3 * k + 2) 0) left ∙ at.2 ∙ byte 0 (lit< tt) ∙ ap (λ m. get_or groups k 0 / m % 256) (pow-zero 256)
+          ∙ ap (λ m. m % 256) (div-one (get_or groups k 0)),
     )
 
 -- the indices of the three bytes of a group are those that it was made of
@@ -129,7 +134,8 @@ indices_back g s t u v hs ht hu hv is = (omega (arith, is), omega (arith, is), o
 module _ (xs pairs groups bytes : List ℕ) (long : length xs ≡ 16) (size : length bytes ≡ 16) (small : Each1 (λ index. index < 64) xs)
     (paired : (j : ℕ) → j < 8 → slice_index pairs j ≡ 64 * slice_index xs (2 * j) + slice_index xs (2 * j + 1))
     (grouped : (k : ℕ) → k < 4 → slice_index groups k ≡ 4096 * slice_index pairs (2 * k) + slice_index pairs (2 * k + 1))
-    (cut : (k : ℕ) → k < 4 → (slice_index bytes (3 * k) ≡ slice_index groups k / 2 ^ 16 % 2 ^ 8) × (slice_index bytes (3 * k + 1) ≡ slice_index groups k / 2 ^ 8 % 2 ^ 8)
+    (cut : (k : ℕ) → k < 4 → (slice_index bytes (3 * k) ≡ slice_index groups k / 2 ^ 16 % 2 ^ 8)
+    × (slice_index bytes (3 * k + 1) ≡ slice_index groups k / 2 ^ 8 % 2 ^ 8)
     × (slice_index bytes (3 * k + 2) ≡ slice_index groups k % 2 ^ 8)) where
   below : (i : ℕ) → i < 16 → get_or xs i 0 < 64
   below i h = Each1-get_or (λ index. index < 64) xs i 0 (omega (arith, long)) small
@@ -142,10 +148,13 @@ module _ (xs pairs groups bytes : List ℕ) (long : length xs ≡ 16) (size : le
   quad k h =
       let parts = cut k h in
       let g = get_or groups k 0 in
-      let is : g ≡ 4096 * (64 * get_or xs (2 * (2 * k)) 0 + get_or xs (2 * (2 * k) + 1) 0) + (64 * get_or xs (2 * (2 * k + 1)) 0 + get_or xs (2 * (2 * k + 1) + 1) 0)
+      let is : g ≡ 4096 * (64 * get_or xs (2 * (2 * k)) 0 + get_or xs (2 * (2 * k) + 1) 0)
+      + (64 * get_or xs (2 * (2 * k + 1)) 0 + get_or xs (2 * (2 * k + 1) + 1) 0)
       = grouped k h ∙ (λ i. 4096 * paired (2 * k) (omega arith) i + paired (2 * k + 1) (omega arith) i) in
-      let back = indices_back g (get_or xs (2 * (2 * k)) 0) (get_or xs (2 * (2 * k) + 1) 0) (get_or xs (2 * (2 * k + 1)) 0) (get_or xs (2 * (2 * k + 1) + 1) 0)
-      (below (2 * (2 * k)) (omega arith)) (below (2 * (2 * k) + 1) (omega arith)) (below (2 * (2 * k + 1)) (omega arith)) (below (2 * (2 * k + 1) + 1) (omega arith)) is in (
+      let back = indices_back g (get_or xs (2 * (2 * k)) 0) (get_or xs (2 * (2 * k) + 1) 0) (get_or xs (2 * (2 * k + 1)) 0)
+      (get_or xs (2 * (2 * k + 1) + 1) 0)
+      (below (2 * (2 * k)) (omega arith)) (below (2 * (2 * k) + 1) (omega arith)) (below (2 * (2 * k + 1)) (omega arith))
+      (below (2 * (2 * k + 1) + 1) (omega arith)) is in (
         ap (λ n. n / 4) parts.0 ∙ back.0,
         (λ i. parts.0 i % 4 * 16 + parts.1 i / 16) ∙ back.1,
         (λ i. parts.1 i % 16 * 4 + parts.2 i / 64) ∙ back.2,
@@ -160,5 +169,6 @@ module _ (xs pairs groups bytes : List ℕ) (long : length xs ≡ 16) (size : le
       let q2 = quad 2 (lit< tt) in
       let q3 = quad 3 (lit< tt) in
       ap indices (sym (pick_l-range_with_len 0 bytes 0 12 (omega (arith, size))))
-      ∙ (λ i. q0.0 i ∷ q0.1 i ∷ q0.2 i ∷ q0.3 i ∷ q1.0 i ∷ q1.1 i ∷ q1.2 i ∷ q1.3 i ∷ q2.0 i ∷ q2.1 i ∷ q2.2 i ∷ q2.3 i ∷ q3.0 i ∷ q3.1 i ∷ q3.2 i ∷ q3.3 i ∷ [])
+      ∙ (λ i. q0.0 i ∷ q0.1 i ∷ q0.2 i ∷ q0.3 i ∷ q1.0 i ∷ q1.1 i ∷ q1.2 i ∷ q1.3 i ∷ q2.0 i ∷ q2.1 i ∷ q2.2 i ∷ q2.3 i ∷ q3.0 i ∷ q3.1 i ∷ q3.2 i
+      ∷ q3.3 i ∷ [])
       ∙ pick_l-range_with_len 0 xs 0 16 (omega (arith, long)) ∙ take_all 16 xs (omega (arith, long))

@@ -120,7 +120,8 @@ module _ (bytes : List ℕ) (long : length bytes ≡ 16) (each : Each1 (λ x. x 
   at : ℕ → ℕ
   at k = get_or bytes k 0
 
-  lanes : zip2 bit_and (pick_l 0 (lows words ++ highs words) turns) (replicate 16 63) ≡ indices (pick_l 0 bytes (0 ∷ 1 ∷ 2 ∷ 3 ∷ 4 ∷ 5 ∷ 6 ∷ 7 ∷ 8 ∷ 9 ∷ 10 ∷ 11 ∷ []))
+  lanes : zip2 bit_and (pick_l 0 (lows words ++ highs words) turns) (replicate 16 63)
+      ≡ indices (pick_l 0 bytes (0 ∷ 1 ∷ 2 ∷ 3 ∷ 4 ∷ 5 ∷ 6 ∷ 7 ∷ 8 ∷ 9 ∷ 10 ∷ 11 ∷ []))
   unfolding indices at
   lanes = λ i.
       (low_lane 0 (lit< tt) ∙ first_index (at 0) (at 1) (byte 0) (byte 1)) i
@@ -141,8 +142,10 @@ module _ (bytes : List ℕ) (long : length bytes ≡ 16) (each : Each1 (λ x. x 
       ∷ (high_lane 7 (lit< tt) ∙ fourth_index (at 10) (at 11) (byte 10) (byte 11)) i
       ∷ []
 
-  pub indices_are : zip2 bit_and (pick_l 0 (lows (words_of (pick_l 0 (bytes ++ bytes) pair_places)) ++ highs (words_of (pick_l 0 (bytes ++ bytes) pair_places))) turns) (replicate 16 63)
+  pub indices_are : zip2 bit_and (pick_l 0
+      (lows (words_of (pick_l 0 (bytes ++ bytes) pair_places)) ++ highs (words_of (pick_l 0 (bytes ++ bytes) pair_places))) turns) (replicate 16 63)
       ≡ indices (take 12 bytes)
   indices_are =
-      ap (λ xs. zip2 bit_and (pick_l 0 (lows (words_of xs) ++ highs (words_of xs)) turns) (replicate 16 63)) (pick_l_left 0 bytes bytes 16 pair_places long tt)
+      ap (λ xs. zip2 bit_and (pick_l 0 (lows (words_of xs) ++ highs (words_of xs)) turns) (replicate 16 63))
+      (pick_l_left 0 bytes bytes 16 pair_places long tt)
       ∙ lanes ∙ ap indices (pick_l-range_with_len 0 bytes 0 12 (omega arith))

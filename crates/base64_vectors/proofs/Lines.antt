@@ -42,7 +42,8 @@ columns_of bytes e =
     let none : padding_len (length bytes) ≡ 0 = omega (arith, e) in
     rw (none, append-nil) (symbols_of bytes e)
 
-pub group_written : (bytes old group written : List ℕ) → length bytes ≡ 16 → length old ≡ 16 → group ≡ indices (take 12 bytes) → written ≡ looked_up symbols group
+pub group_written : (bytes old group written : List ℕ) → length bytes ≡ 16 → length old ≡ 16 → group ≡ indices (take 12 bytes)
+    → written ≡ looked_up symbols group
     → put_chunk 0 old written ≡ padded_columns (take 12 bytes)
 group_written bytes old group written long room is at =
     let twelve : length (take 12 bytes) ≡ 12 = length-take-le 12 bytes (omega (arith, long)) in
@@ -55,14 +56,16 @@ pub kept : (a k : ℕ) (xs ys : List ℕ) → a + k ≤ length xs → length ys 
 kept a k xs ys fits e = same_len_mid a k xs ys (e ∙ sym (length-take-le k (drop a xs) (omega (arith, fits, length-drop a xs))))
 
 -- a group more
-group_more : (bytes : List ℕ) (n : ℕ) → n % 3 ≡ 0 → n ≤ length bytes → padded_columns (take (n + 12) bytes) ≡ padded_columns (take n bytes) ++ padded_columns (take 12 (drop n bytes))
+group_more : (bytes : List ℕ) (n : ℕ) → n % 3 ≡ 0 → n ≤ length bytes
+    → padded_columns (take (n + 12) bytes) ≡ padded_columns (take n bytes) ++ padded_columns (take 12 (drop n bytes))
 group_more bytes n whole fits =
     let front : length (take n bytes) ≡ n = length-take-le n bytes fits in
     ap padded_columns (take-add n 12 bytes) ∙ padded_columns-append (take n bytes) (take 12 (drop n bytes)) (omega (arith, front, whole))
 
 -- the four groups of a line
 line_of_groups : (bytes : List ℕ) → length bytes ≡ 48
-    → padded_columns bytes ≡ ((padded_columns (take 12 bytes) ++ padded_columns (take 12 (drop 12 bytes))) ++ padded_columns (take 12 (drop 24 bytes))) ++ padded_columns (take 12 (drop 36 bytes))
+    → padded_columns bytes ≡ ((padded_columns (take 12 bytes) ++ padded_columns (take 12 (drop 12 bytes)))
+    ++ padded_columns (take 12 (drop 24 bytes))) ++ padded_columns (take 12 (drop 36 bytes))
 line_of_groups bytes long =
     ap padded_columns (sym (take_all 48 bytes (omega (arith, long)))) ∙ group_more bytes 36 refl (omega (arith, long))
     ∙ ap (λ l. l ++ padded_columns (take 12 (drop 36 bytes))) (group_more bytes 24 refl (omega (arith, long))
@@ -76,7 +79,8 @@ front_of bytes n = take-take 12 16 (take 16 (drop n bytes)) (omega arith) ∙ ta
 abbrev pub last_places : List ℕ
 last_places = 4 ∷ 5 ∷ 6 ∷ 7 ∷ 8 ∷ 9 ∷ 10 ∷ 11 ∷ 12 ∷ 13 ∷ 14 ∷ 15 ∷ 0 ∷ 0 ∷ 0 ∷ 0 ∷ []
 
-last_of : (bytes sixteen : List ℕ) → length bytes ≡ 48 → sixteen ≡ take 16 (take 16 (drop 32 bytes)) → take 12 (pick_l 0 (sixteen ++ sixteen) last_places) ≡ take 12 (drop 36 bytes)
+last_of : (bytes sixteen : List ℕ) → length bytes ≡ 48 → sixteen ≡ take 16 (take 16 (drop 32 bytes))
+    → take 12 (pick_l 0 (sixteen ++ sixteen) last_places) ≡ take 12 (drop 36 bytes)
 last_of bytes sixteen long is =
     let rest : length (drop 32 bytes) ≡ 16 = omega (arith, length-drop 32 bytes, long) in
     let same : sixteen ≡ drop 32 bytes = is ∙ take-take 16 16 (drop 32 bytes) (omega arith) ∙ take_all 16 (drop 32 bytes) (omega (arith, rest)) in
@@ -135,7 +139,8 @@ line_written bytes old w x y z long room is_w is_x is_y is_z =
     let px : x ≡ padded_columns (take 12 (drop 12 bytes)) = is_x ∙ ap padded_columns (front_of bytes 12) in
     let py : y ≡ padded_columns (take 12 (drop 24 bytes)) = is_y ∙ ap padded_columns (front_of bytes 24) in
     let pz : z ≡ padded_columns (take 12 (drop 36 bytes)) = is_z ∙ ap padded_columns (last_of bytes _ long refl) in
-    four_written old w x y z room (sixteen w 0 (omega arith) pw) (sixteen x 12 (omega arith) px) (sixteen y 24 (omega arith) py) (sixteen z 36 (omega arith) pz)
+    four_written old w x y z room (sixteen w 0 (omega arith) pw) (sixteen x 12 (omega arith) px) (sixteen y 24 (omega arith) py)
+    (sixteen z 36 (omega arith) pz)
     ∙ (λ i. ((pw i ++ px i) ++ py i) ++ pz i) ∙ sym (line_of_groups bytes long)
   where
     sixteen : (v : List ℕ) (n : ℕ) → n + 12 ≤ 48 → v ≡ padded_columns (take 12 (drop n bytes)) → length v ≡ 16

@@ -21,7 +21,8 @@ range_of a = cond (top 7 (cond (ltb a 26) (2 ^ 8 - 1) 0)) 13 ((cond (top 7 (cond
 abbrev pub ranges : ℕ → List ℕ → List ℕ
 ranges n xs =
     sel_l (map (top 7) (zip2 (λ a b. cond (ltb a b) (2 ^ 8 - 1) 0) xs (replicate n 26))) (replicate n 13)
-    (zip2 (λ a b. (a + (2 ^ 8 - b)) % 2 ^ 8) (sel_l (map (top 7) (zip2 (λ a b. cond (ltb a b) (2 ^ 8 - 1) 0) xs (replicate n 51))) (replicate n 51) xs) (replicate n 51))
+    (zip2 (λ a b. (a + (2 ^ 8 - b)) % 2 ^ 8)
+    (sel_l (map (top 7) (zip2 (λ a b. cond (ltb a b) (2 ^ 8 - 1) 0) xs (replicate n 51))) (replicate n 51) xs) (replicate n 51))
 
 ranges_are : (n : ℕ) (xs : List ℕ) → length xs ≡ n → ranges n xs ≡ map range_of xs
 unfolding range_of
@@ -41,7 +42,8 @@ all_pass = refl
 passed : (a : ℕ) → a < 64 → (range_of a < 16) × ((a + slice_index offsets (range_of a)) % 2 ^ 8 ≡ slice_index symbols a)
 unfolding passes
 passed a h =
-    let both = and_parts (nat_lt (range_of a) 16) ((a + slice_index offsets (range_of a)) % 2 ^ 8 == slice_index symbols a) (all_below_at passes 64 a all_pass h) in
+    let both = and_parts (nat_lt (range_of a) 16) ((a + slice_index offsets (range_of a)) % 2 ^ 8 == slice_index symbols a)
+    (all_below_at passes 64 a all_pass h) in
     (ltb-true (range_of a) 16 both.0, eqb-true ((a + slice_index offsets (range_of a)) % 2 ^ 8) (slice_index symbols a) both.1)
 
 small : (xs : List ℕ) → Each1 (λ index. index < 64) xs → Each1 (λ place. place < 16) (map range_of xs)

@@ -1,6 +1,6 @@
-//! Gets the sealed records that standard input names by their numbers, one a line: what `bench/seeks.sh` times. The file of the last word is a payload
-//! alone, under the key 0, 1, .., 31 and the bench suite, or, where the word `file` stands before it, a whole file to `bench`, bare or in armor. Prints
-//! how many records were given, the sum of their bytes, and how many chunks were opened to open the records and to get them.
+//! Gets the sealed records that standard input names by their numbers, one a line: what `bench/seeks.sh` times. The file of the last word is a
+//! payload alone, under the key 0, 1, .., 31 and the bench suite, or, where the word `file` stands before it, a whole file to `bench`, bare or
+//! in armor. Prints how many records were given, the sum of their bytes, and how many chunks were opened to open the records and to get them.
 
 use crate::Outcome;
 use crate::seeks::{KEY, Walk, numbers, open, told};

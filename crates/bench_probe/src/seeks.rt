@@ -1,6 +1,6 @@
-//! Reads one byte of a plaintext at each of the places that standard input names, one a line: what `bench/seeks.sh` times. The file of the last word
-//! is a payload alone, under the key 0, 1, .., 31 and the bench suite, or, where the word `file` stands before it, a whole file to `bench`, bare or in
-//! armor, that is opened by `open_text`. Prints how many bytes were read, their sum, and how many chunks were opened for them.
+//! Reads one byte of a plaintext at each of the places that standard input names, one a line: what `bench/seeks.sh` times. The file of the last
+//! word is a payload alone, under the key 0, 1, .., 31 and the bench suite, or, where the word `file` stands before it, a whole file to `bench`,
+//! bare or in armor, that is opened by `open_text`. Prints how many bytes were read, their sum, and how many chunks were opened for them.
 
 use crate::Outcome;
 use age::io::{Error, Read, Seek, SeekFrom, Std, device_error, read_to_end};

@@ -209,7 +209,8 @@ without m env a b (k ∷ ks) h e =
     without m env a b ks h.1 (congruent_cancel m _ _ _ _ (congruent_product_right m (eval env k.factor) _ _ h.0) e)
 
 -- what follows from known equations, each times its factor, by the rules of rings
-pub follows : (m : ℕ) (env : ℕ → ℕ) (a b : Expr) (ks : List Premise) → same_coefficients m (normal_form (lefts a ks)) (normal_form (rights b ks)) ≡ true
+pub follows : (m : ℕ) (env : ℕ → ℕ) (a b : Expr) (ks : List Premise)
+    → same_coefficients m (normal_form (lefts a ks)) (normal_form (rights b ks)) ≡ true
     → AllHold m env ks → Congruent m (eval env a) (eval env b)
 follows m env a b ks h g = without m env a b ks g (identity m env (lefts a ks) (rights b ks) h)
 

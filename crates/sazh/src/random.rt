@@ -1,5 +1,5 @@
 //! The system's random bytes.
-ghost use Rattle.std.specs.Prelude.{◌≡◌, ℕ, List, Option, length, MatchOption, ⊤};
+ghost use Rattle.std.specs.Prelude.{◌≡◌, length, MatchOption, ⊤};
 
 use sazh_core::error::RandomError;
 use sazh_core::random::RandomBytes;

@@ -25,7 +25,8 @@ extended more first old new arg rule is option added =
 
 -- the same of what a call may give
 pub extends : {E : Type 0} (more : App → App) (first old : Command) (arg : Arg) (rule : Rule) (result : Result Command E)
-    → Extends more first old → IsOption rule arg → IfOk result (λ new. AddsArg old arg new) → IfOk result (Extends (λ app. with_rule (more app) rule) first)
+    → Extends more first old → IsOption rule arg → IfOk result (λ new. AddsArg old arg new)
+    → IfOk result (Extends (λ app. with_rule (more app) rule) first)
 extends more first old arg rule (Ok new) is option added = extended more first old new arg rule is option added
 extends more first old arg rule (Err error) is option added = tt
 
@@ -50,6 +51,7 @@ with_command app below old sub new is sub_is added =
     (added.shape sub_is.1 ∙ ap₂ with_subcommand is.0 (ap (λ (a : App). a.top) sub_is.0), added.globals ∙ both_false _ _ is.1 sub_is.1)
 
 pub with_commands : {E : Type 0} (app below : App) (old sub : Command) (result : Result Command E)
-    → IsCommand app old → IsCommand below sub → IfOk result (λ new. AddsSubcommand old sub new) → IfOk result (IsCommand (with_subcommand app below.top))
+    → IsCommand app old → IsCommand below sub → IfOk result (λ new. AddsSubcommand old sub new)
+    → IfOk result (IsCommand (with_subcommand app below.top))
 with_commands app below old sub (Ok new) is sub_is added = with_command app below old sub new is sub_is added
 with_commands app below old sub (Err error) is sub_is added = tt

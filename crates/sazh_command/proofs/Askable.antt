@@ -116,8 +116,10 @@ unknown_or_asked-ok None given = asked-ok name.Encrypt given
 unknown_or_asked-ok (Some word) given =
     either IsAskable (says_to_whom given) (asked name.Encrypt given) _ (asked-ok name.Encrypt given) tt
 
-not_asked-ok : (given : GivenValue) → IfOk (if not (length given.identity_files == 0) then Err DecryptingOption else unknown_or_asked given.input given) IsAskable
-not_asked-ok given = either IsAskable (not (length given.identity_files == 0)) _ (unknown_or_asked given.input given) tt (unknown_or_asked-ok given.input given)
+not_asked-ok : (given : GivenValue) → IfOk
+    (if not (length given.identity_files == 0) then Err DecryptingOption else unknown_or_asked given.input given) IsAskable
+not_asked-ok given = either IsAskable (not (length given.identity_files == 0)) _ (unknown_or_asked given.input given) tt
+    (unknown_or_asked-ok given.input given)
 
 to_encrypt-ok : (encrypting : Bool) (given : GivenValue) → IfOk (asked_alone encrypting false given) IsAskable
 to_encrypt-ok true given = either IsAskable (is_some given.header_limit) _ (asked name.Encrypt given) tt (asked-ok name.Encrypt given)
@@ -137,4 +139,5 @@ asked_named-ok word (Some command) rows = asked-ok command (given_of rows)
 -- whatever is asked for can be asked for
 pub askable : (rows : List Row) (met : Option (List ℕ × List Row)) → IfOk (asked_by rows met) IsAskable
 askable rows None = asked_alone-ok _ _ (given_of rows)
-askable rows (Some met) = either IsAskable (has_words rows) _ (asked_named met.0 (command_named met.0) met.1) tt (asked_named-ok met.0 (command_named met.0) met.1)
+askable rows (Some met) = either IsAskable (has_words rows) _ (asked_named met.0 (command_named met.0) met.1) tt
+    (asked_named-ok met.0 (command_named met.0) met.1)

@@ -1,12 +1,10 @@
 -- Decimal numbers in words.
 use Rattle.std.specs.Prelude.{◌≡◌, ◌≢◌, ℕ, ◌^◌, ◌<◌, ◌&&◌, ◌==◌, Bool, true, false, List, length, slice_index, if◌then◌else◌, Option, Some, None, IfSome, Result, Ok, Err, refl}
 use Rattle.std.specs.Result.{OkIff, result_ok}
-use Rattle.std.specs.Fmt.{decimal}
 use Rattle.std.specs.Str.{all_ascii_digits}
 use Rattle.std.specs.Str.Parse.{ParsesUnsigned, digits_value}
-use Rattle.std.proofs.Common.{arith, sym, ap, ◌∙◌}
+use Rattle.std.proofs.Common.{arith, ap, ◌∙◌}
 use Rattle.std.proofs.lemmas.Bool.Decides.{nat_tests, Decides-ltb}
-use Rattle.std.proofs.lemmas.Fmt.{decimal_is_IsNumeral}
 use Rattle.std.proofs.lemmas.Str.Parse.{IsNumeralModel, numerals_by_value, tells_all_ascii_digits, parse_plain}
 use Rattle.sazh_command.specs.Decimal.{number_of}
 
@@ -24,7 +22,8 @@ not_chosen true true false n none = refl
 not_chosen true true true n none = absurd (none refl refl refl)
 
 number_is : {E : Type 0} (word : List ℕ) (r : Result ℕ E)
-    → OkIff r ((all_ascii_digits word ≡ true) × (0 < length word) × (digits_value 10 word < 2 ^ 64)) (digits_value 10 word) → result_ok r ≡ number_of word
+    → OkIff r ((all_ascii_digits word ≡ true) × (0 < length word) × (digits_value 10 word < 2 ^ 64)) (digits_value 10 word)
+    → result_ok r ≡ number_of word
 number_is word (Ok n) h =
     ap (λ m. Some m) h.1
     ∙ chosen (all_ascii_digits word) _ _ (digits_value 10 word) h.0.0 ((Decides-ltb 0 (length word)).1 h.0.1)
@@ -37,17 +36,9 @@ not_plus : (c : ℕ) → (c == 43) ≡ false → c ≢ 43
 not_plus c is = grind (arith, nat_tests)
 
 -- the number of a word that doesn't begin with '+'
-pub number : {E : Type 0} (word : List ℕ) (r : Result ℕ E) → ParsesUnsigned 64 10 word r → (slice_index word 0 == 43) ≡ false → result_ok r ≡ number_of word
+pub number : {E : Type 0} (word : List ℕ) (r : Result ℕ E) → ParsesUnsigned 64 10 word r → (slice_index word 0 == 43) ≡ false
+    → result_ok r ≡ number_of word
 number word r h first = number_is word r (parse_plain own 64 word r h (not_plus (slice_index word 0) first))
-
--- what is written of a number is read as it
-pub number_of-decimal : (n : ℕ) → n < 2 ^ 64 → number_of (decimal n) ≡ Some n
-number_of-decimal n small =
-    let (numeral, value) = decimal_is_IsNumeral n small in
-    let below : digits_value 10 (decimal n) < 2 ^ 64 = omega (arith, value, small) in
-    sym (chosen (all_ascii_digits (decimal n)) _ _ (digits_value 10 (decimal n)) (own.from (decimal n) numeral.1)
-    ((Decides-ltb 0 (length (decimal n))).1 numeral.0) ((Decides-ltb (digits_value 10 (decimal n)) (2 ^ 64)).1 below))
-    ∙ ap (λ m. Some m) value
 
 small_if : (a b c : Bool) (n : ℕ) → (c ≡ true → n < 2 ^ 64) → IfSome (if a && b && c then Some n else None) (λ m. m < 2 ^ 64)
 small_if false b c n small = tt

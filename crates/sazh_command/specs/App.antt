@@ -39,7 +39,8 @@ operands_rule = record (new_rule (codes "operands")) { value_names = 1; action =
 -- -r RECIPIENT, -R FILE and -a
 abbrev pub with_encrypting : App → App
 with_encrypting app =
-    with_rule (with_rule (with_rule app (texts_rule (codes "recipient") 114)) (texts_rule (codes "recipients-file") 82)) (flag_rule (codes "armor") 97)
+    with_rule (with_rule (with_rule app (texts_rule (codes "recipient") 114)) (texts_rule (codes "recipients-file") 82))
+    (flag_rule (codes "armor") 97)
 
 -- -i FILE
 abbrev pub with_identities : App → App

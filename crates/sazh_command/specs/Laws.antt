@@ -38,7 +38,8 @@ output = record { name = Some (codes "out"); overwrite = true; skip_sync = false
 
 abbrev to_two : CommandValue
 to_two =
-    Encrypt (Listed (Text (codes "age1a") ∷ Text (codes "age1b") ∷ File (codes "team") ∷ IdentityFile (codes "key") ∷ [])) true (codes "-in") output false
+    Encrypt (Listed (Text (codes "age1a") ∷ Text (codes "age1b") ∷ File (codes "team") ∷ IdentityFile (codes "key") ∷ [])) true
+    (codes "-in") output false
 
 -- recipients in the order of the words, those of -R behind those of -r, and those of -i last; several flags behind one `-`; a value as the next
 -- word, behind `=` and in the same word; IN behind `--`
@@ -46,7 +47,8 @@ abbrev pub EncryptsAsAge : Type 0
 EncryptsAsAge =
     Asks (codes "-r" ∷ codes "age1a" ∷ codes "-afR" ∷ codes "team" ∷ codes "-o=out" ∷ codes "-rage1b" ∷ codes "-ei" ∷ codes "key" ∷ codes "--"
     ∷ codes "-in" ∷ []) to_two
-    × Asks (codes "encrypt" ∷ codes "--identity=key" ∷ codes "--recipients-file=team" ∷ codes "--recipient" ∷ codes "age1a" ∷ codes "--recipient=age1b"
+    × Asks (codes "encrypt" ∷ codes "--identity=key" ∷ codes "--recipients-file=team" ∷ codes "--recipient" ∷ codes "age1a"
+    ∷ codes "--recipient=age1b"
     ∷ codes "--armor" ∷ codes "--force" ∷ codes "--output" ∷ codes "out" ∷ codes "--" ∷ codes "-in" ∷ []) to_two
 
 abbrev with_two : CommandValue
@@ -65,5 +67,6 @@ a_part = Part (record { identities = Files (codes "a" ∷ []); header_limit = 50
 
 abbrev pub PartsByOptions : Type 0
 PartsByOptions =
-    Asks (codes "part" ∷ codes "-i" ∷ codes "a" ∷ codes "--from" ∷ codes "7" ∷ codes "--count=20" ∷ codes "--header-limit=500" ∷ codes "in" ∷ []) a_part
+    Asks (codes "part" ∷ codes "-i" ∷ codes "a" ∷ codes "--from" ∷ codes "7" ∷ codes "--count=20" ∷ codes "--header-limit=500" ∷ codes "in" ∷ [])
+    a_part
     × Asks (codes "part" ∷ codes "7" ∷ codes "--header-limit" ∷ codes "500" ∷ codes "20" ∷ codes "in" ∷ codes "-i" ∷ codes "a" ∷ []) a_part

@@ -383,7 +383,8 @@ fn with_command<'a>(
     program: Result<Command<'a>, AllocError>,
     command: Result<Command<'a>, AllocError>,
 ) -> Result<Command<'a>, AllocError>
-    ensures { (app below : App) → IfOk program.entry (IsCommand app) → IfOk command.entry (IsCommand below) → IfOk result (IsCommand (with_subcommand app below.top)) }
+    ensures { (app below : App) → IfOk program.entry (IsCommand app) → IfOk command.entry (IsCommand below)
+        → IfOk result (IsCommand (with_subcommand app below.top)) }
 {
     program?.subcommand(command?)
 }

@@ -1,6 +1,6 @@
 //! The words of a command line as a whole.
 ghost use Rattle.std.specs.Prelude.{◌≡◌, IfOk, Result, map, string_bytes};
-ghost use Rattle.clap.specs.Words.{found_of, rows_of, subcommand_rows_of, kind_of, HasKind, Kinds};
+ghost use Rattle.clap.specs.Words.{found_of, rows_of, subcommand_rows_of, HasKind, Kinds};
 ghost use Rattle.sazh_command.specs.Asked.{IsAnswer, CommandValue, UsageErrorValue, answer_value, command_value};
 ghost use Rattle.sazh_command.specs.Names.{command_named};
 ghost use Rattle.sazh_command.specs.Synopsis.{asked_by, asked_named};
@@ -55,7 +55,8 @@ fn asked_by(alloc: Global, matches: &ArgMatches<'_>) -> Result<Command, Stop>
 
 // The same, where a mistake is an answer.
 fn answer_of(command: Result<Command, Stop>) -> Result<Result<Command, UsageError>, AllocError>
-    ensures { IfOk result (λ answer. (due : Result CommandValue UsageErrorValue) → IsAnswer command_value command due → answer_value command_value answer ≡ due) }
+    ensures { IfOk result (λ answer. (due : Result CommandValue UsageErrorValue) → IsAnswer command_value command due
+        → answer_value command_value answer ≡ due) }
 {
     match command {
         Ok(command) => Ok(Ok(command)),

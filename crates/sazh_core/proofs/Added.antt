@@ -1,10 +1,10 @@
 -- One line more.
 use Rattle.std.proofs.Common.{◌∙◌, ℕ, ◌+◌, ◌<◌, List, [], ◌∷◌, ◌++◌, length, length-take-le, map, take, drop, get_or, refl, sym, ap, inl, inr, arith}
 use Rattle.std.proofs.lemmas.List.{drop_more, length-map, map-append, take-append-drop}
-use Rattle.sazh_core.specs.Recipients.{AreRecipients, IsBadRecipientLine, IsFirstBad, IsPassedOver, IsRecipient}
+use Rattle.sazh_core.specs.Recipients.{AreRecipients, IsBadRecipientLine, IsFirstBadRecipient, IsEmptyOrComment, IsRecipient}
 
 -- one that is passed over
-pub line_passed : (before : List (List ℕ)) (line : List ℕ) (recipients : List (List ℕ)) → AreRecipients before recipients → IsPassedOver line
+pub line_passed : (before : List (List ℕ)) (line : List ℕ) (recipients : List (List ℕ)) → AreRecipients before recipients → IsEmptyOrComment line
     → AreRecipients (before ++ line ∷ []) recipients
 line_passed [] line recipients none passed = inl (passed, none)
 line_passed (first ∷ before) line recipients (inl over) passed = inl (over.0, line_passed before line recipients over.1 passed)
@@ -21,7 +21,8 @@ line_found (first ∷ before) line recipients public (inr found) is =
 
 -- the first bad line of some lines, of which those before it are the first ones
 pub first_bad : {A : Type 0} (text_of : A → List ℕ) (all : List A) (i : ℕ) (other : A) (recipients : List (List ℕ)) → i < length all
-    → AreRecipients (map text_of (take i all)) recipients → IsBadRecipientLine (text_of (get_or all i other)) → IsFirstBad (i + 1) (map text_of all)
+    → AreRecipients (map text_of (take i all)) recipients → IsBadRecipientLine (text_of (get_or all i other))
+    → IsFirstBadRecipient (i + 1) (map text_of all)
 first_bad text_of all i other recipients within good bad = record {
   before = map text_of (take i all);
   line = text_of (get_or all i other);

@@ -12,7 +12,7 @@ use Rattle.age.specs.EncryptedIdentities.{IsMadeOf}
 use Rattle.age.specs.Entries.{Entry, AreEntries}
 use Rattle.age.specs.IdentityReading.{ReadsFile, most_file_bytes}
 use Rattle.age.specs.Stretch.{Stretch, whole}
-use Rattle.sazh_core.specs.Keyring.{AreOfFile, AreOfFiles, FoundOrNone, IsFirstRefused, IsFound, IsProtected, IsUnderPassphrase, ReadsBytes, RefusesKeyBytes, RefusesKeyFile}
+use Rattle.sazh_core.specs.Keyring.{AreOfFile, AreOfFiles, FoundOrNone, IsFirstRefused, IsFoundProtected, IsProtected, IsUnderPassphrase, ReadsBytes, RefusesKeyBytes, RefusesKeyFile}
 use Rattle.sazh_core.specs.declared.callbacks.GivesOnce.{GivesOnce}
 use Rattle.sazh_core.specs.declared.error.KeyringError.{KeyringError}
 use Rattle.sazh_core.specs.declared.holder.Holder.{Holder}
@@ -47,10 +47,13 @@ bytes_read read entries input bytes (Err e) (last, reads) told is never =
       | inr (inr (inr ((inr (named, refuses)), breaks))) ↦ absurd (never _ refuses)
     ]
 
-pub protected_found : {S T : Type 0} (text_read : ReadMembers T) (text : T) (name bytes : List ℕ) (asked : GivesOnce) (made : Result (Decryptor S T) DecryptError)
-    (filename : Option (List ℕ)) (found : Result (Option (Protected S T GivesOnce)) DecryptError) (result : Result (Option (Protected S T GivesOnce)) KeyringError)
-    → ReadsBytes text_read bytes text → OpensFront text_read text made → filename ≡ Some name → IsMadeOf made filename asked 18 None found → FoundOrNone found result
-    → IsFound text_read name bytes asked result
+pub protected_found : {S T : Type 0} (text_read : ReadMembers T) (text : T) (name bytes : List ℕ) (asked : GivesOnce)
+    (made : Result (Decryptor S T) DecryptError)
+    (filename : Option (List ℕ)) (found : Result (Option (Protected S T GivesOnce)) DecryptError)
+    (result : Result (Option (Protected S T GivesOnce)) KeyringError)
+    → ReadsBytes text_read bytes text → OpensFront text_read text made → filename ≡ Some name → IsMadeOf made filename asked 18 None found
+    → FoundOrNone found result
+    → IsFoundProtected text_read name bytes asked result
 protected_found text_read text name bytes asked (Err e) filename (Ok it) result reads opens named is_made is_found = absurd is_made
 protected_found text_read text name bytes asked (Err e) filename (Err own) result reads opens named is_made is_found =
     elim is_found [
@@ -72,7 +75,8 @@ protected_found text_read text name bytes asked (Ok front) filename (Ok (Some id
     }
 
 -- what holds of an answer holds of it in weaker words
-pub match_weaker : {A E : Type 0} {P Q : A → Type 0} {F G : E → Type 0} (result : Result A E) → MatchResult result P F → ((x : A) → P x → Q x) → ((e : E) → F e → G e)
+pub match_weaker : {A E : Type 0} {P Q : A → Type 0} {F G : E → Type 0} (result : Result A E) → MatchResult result P F → ((x : A) → P x → Q x)
+    → ((e : E) → F e → G e)
     → MatchResult result Q G
 match_weaker (Ok x) holds ok err = ok x holds
 match_weaker (Err e) holds ok err = err e holds
@@ -80,14 +84,16 @@ match_weaker (Err e) holds ok err = err e holds
 module _ {S T : Type 0} (text_read : ReadMembers T) (given : Option (List ℕ)) where
   -- those who have the identities of files, and then those of one more
   pub file_added : (before : List KeyFile) (file : KeyFile) (holders more : List (Holder S T GivesOnce))
-      → AreOfFiles text_read before given holders → AreOfFile text_read file given more → AreOfFiles text_read (before ++ file ∷ []) given (holders ++ more)
+      → AreOfFiles text_read before given holders → AreOfFile text_read file given more
+      → AreOfFiles text_read (before ++ file ∷ []) given (holders ++ more)
   file_added [] file holders more none is = (more, [], ap (λ all. all ++ more) none ∙ sym (append-nil more), is, refl)
   file_added (first ∷ before) file holders more (own, others, joined, of_first, of_others) is =
       (own, others ++ more, ap (λ all. all ++ more) joined ∙ append_assoc own others more, of_first, file_added before file others more of_others is)
 
   -- the first file that is refused, of which those before it are the first ones
   pub file_refused : (all : List KeyFile) (i : ℕ) (other : KeyFile) (holders : List (Holder S T GivesOnce)) (e : KeyringError) → i < length all
-      → AreOfFiles text_read (take i all) given holders → RefusesKeyFile text_read S i (get_or all i other) given e → IsFirstRefused text_read S all given e
+      → AreOfFiles text_read (take i all) given holders → RefusesKeyFile text_read S i (get_or all i other) given e
+      → IsFirstRefused text_read S all given e
   file_refused all i other holders e within good refused = record {
     before = take i all;
     file = get_or all i other;

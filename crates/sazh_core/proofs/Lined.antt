@@ -7,7 +7,8 @@ use Rattle.age.specs.Lines.{line}
 use Rattle.sazh_core.specs.OwnRecipients.{recipients_text}
 
 -- the text of some recipients, and then the line of one more
-pub line_added : (keys : List (List ℕ)) (key : List ℕ) → recipients_text (keys ++ key ∷ []) ≡ recipients_text keys ++ line (bech32_text recipient_prefix key)
+pub line_added : (keys : List (List ℕ)) (key : List ℕ)
+    → recipients_text (keys ++ key ∷ []) ≡ recipients_text keys ++ line (bech32_text recipient_prefix key)
 line_added [] key = append-nil (line (bech32_text recipient_prefix key))
 line_added (first ∷ keys) key =
     let own = line (bech32_text recipient_prefix first) in

@@ -16,7 +16,8 @@ module _ (public_of : List ℕ → List ℕ) where
 
   module _ {T : Type 0} (text_read : ReadMembers T) (S : Type 0) where
     -- the first word that is refused, of which those before it are the first ones
-    pub first_refused : (all : List Word) (i : ℕ) (other : Word) (keys : List (List ℕ)) (e : WordsError) → i < length all → AreOfWords public_of (take i all) keys
+    pub first_refused : (all : List Word) (i : ℕ) (other : Word) (keys : List (List ℕ)) (e : WordsError) → i < length all
+        → AreOfWords public_of (take i all) keys
         → RefusesWord text_read S i (get_or all i other) e → IsFirstRefused text_read S public_of all e
     first_refused all i other keys e within good refused = record {
       before = take i all;

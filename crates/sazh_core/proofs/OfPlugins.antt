@@ -11,7 +11,8 @@ not_empty : (before : List (List ℕ)) (name : List ℕ) (others : List (List �
 not_empty before name others is = Prim.omega (arith, ap length is, length-append before (name ∷ others))
 
 -- where it is why there are no recipients, there is one
-pub plugin_named : (entries : List Entry) (why : ResolveError) → RefusesRecipients entries (encrypt_refusal (PluginResolve why)) → plugin_names entries ≢ []
+pub plugin_named : (entries : List Entry) (why : ResolveError) → RefusesRecipients entries (encrypt_refusal (PluginResolve why))
+    → plugin_names entries ≢ []
 plugin_named entries why refuses none =
     elim refuses [
       | inl (name, least, is) ↦ not_empty least.before name least.others (sym none ∙ least.one)

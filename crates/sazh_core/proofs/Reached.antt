@@ -13,9 +13,10 @@ use Rattle.age.specs.HeaderMac.{header_mac}
 use Rattle.age.specs.Stanza.{StanzaValue}
 use Rattle.age.specs.Texts.{RefusesKey}
 use Rattle.age.specs.Types.{DecryptError}
-use Rattle.sazh_core.specs.Opening.{AnswersAt, OpensHeader, WereAsked}
+use Rattle.sazh_core.specs.Opening.{AnswersByNumber, FindsOpener, WereAsked}
 
-module _ {I A : Type 0} (asks : I → Option A → I → Type 0) (before now : List I) (i : ℕ) (x y : I) (so_far : WereAsked asks before now i) (here : i < length now) where
+module _ {I A : Type 0} (asks : I → Option A → I → Type 0) (before now : List I) (i : ℕ) (x y : I) (so_far : WereAsked asks before now i)
+    (here : i < length now) where
   within : i < length before
   within = omega (arith, length-drop i now, length-drop i before, ap length so_far.later)
 
@@ -42,7 +43,8 @@ module _ {I A : Type 0} (asks : I → Option A → I → Type 0) (before now : L
     later = drop-set-lt (i + 1) now i y (omega arith) ∙ tails;
   }
 
-  pub one_decides : (answer : A) → asks (get_or now i x) (Some answer) y → (first : Decides asks before answer (set now i y)) × (i ≡ length first.passed)
+  pub one_decides : (answer : A) → asks (get_or now i x) (Some answer) y
+      → (first : Decides asks before answer (set now i y)) × (i ≡ length first.passed)
   one_decides answer answers = (
     record {
       passed = take i before;
@@ -59,14 +61,15 @@ module _ {I A : Type 0} (asks : I → Option A → I → Type 0) (before now : L
   )
 
 -- what is answered under the MAC is what opens the header, or why nobody does
-pub opens_or_refuses : {I : Type 0} (unwraps : I → List StanzaValue → UnwrapAnswer → I → Type 0) (h : HeaderValue) (before after : List I) (number : ℕ)
-    (answer : Result (List ℕ) DecryptRefusal) (result : Result ℕ DecryptError) → AnswersAt unwraps h before after number answer
+pub opens_or_refuses : {I : Type 0} (unwraps : I → List StanzaValue → UnwrapAnswer → I → Type 0) (h : HeaderValue) (before after : List I)
+    (number : ℕ)
+    (answer : Result (List ℕ) DecryptRefusal) (result : Result ℕ DecryptError) → AnswersByNumber unwraps h before after number answer
     → IfOk result (λ n. (n ≡ number) × ((file_key : List ℕ) × (answer ≡ Ok file_key) × (h.mac ≡ header_mac file_key (covered_text h.stanzas))))
-    → IfErr result (λ e. RefusesKey answer h (decrypt_refusal e)) → OpensHeader unwraps h before after result
+    → IfErr result (λ e. RefusesKey answer h (decrypt_refusal e)) → FindsOpener unwraps h before after result
 opens_or_refuses unwraps h before after number answer (Ok n) at (same, (file_key, is, right)) refused = (
   record {
     file_key = file_key;
-    first = rw same (subst (λ said. AnswersAt unwraps h before after number said) is at);
+    first = rw same (subst (λ said. AnswersByNumber unwraps h before after number said) is at);
     right = right;
   },
   tt,

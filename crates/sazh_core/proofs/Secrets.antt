@@ -8,7 +8,8 @@ use Rattle.age.specs.Copying.{AppendsFront}
 some_same : (x y : List ℕ) → Path (Option (List ℕ)) (Some x) (Some y) → x ≡ y
 some_same x y is = cc
 
-taken_by : (enough : Bool) (n : ℕ) (draws bytes : List ℕ) → Path (Option (List ℕ)) (if enough then Some (take n draws) else None) (Some bytes) → bytes ≡ take n draws
+taken_by : (enough : Bool) (n : ℕ) (draws bytes : List ℕ) → Path (Option (List ℕ)) (if enough then Some (take n draws) else None) (Some bytes)
+    → bytes ≡ take n draws
 taken_by true n draws bytes is = sym (some_same _ _ is)
 taken_by false n draws bytes is = absurd (Prim.cc)
 
@@ -27,7 +28,8 @@ module _ {W : Type 0} (appended : W → List ℕ → W → Type 0) where
   all_of text known old new is out = record { front = text; after = []; joined = sym is ∙ sym (append-nil text); out = out }
 
   -- bytes appended and then none
-  pub then_none : ((a b c : W) (x y : List ℕ) → appended a x b → appended b y c → appended a (x ++ y) c) → (text known : List ℕ) (old between new : W) → text ≡ known
+  pub then_none : ((a b c : W) (x y : List ℕ) → appended a x b → appended b y c → appended a (x ++ y) c)
+      → (text known : List ℕ) (old between new : W) → text ≡ known
       → appended old text between → appended between [] new → appended old known new
   then_none joins text known old between new is out none =
       subst (λ l. appended old l new) (append-nil text ∙ is) (joins old between new text [] out none)

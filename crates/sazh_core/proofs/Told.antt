@@ -33,7 +33,8 @@ same_file e f is = subst (λ error. OfFile (λ own. e ≡ own) error) is refl
 pub random_names : {S T C : Type 0} (asked : List (Holder S T C)) (e : RandomError) → NamesCommand asked (Random e) (Random e)
 random_names asked e = inl (refl, λ is. absurd (subst (λ error. OfFile (λ _. ⊤) error) (sym is) tt))
 
-pub file_names : {S T C : Type 0} (asked : List (Holder S T C)) (e told : FileError) → NamesKeys asked e told → NamesCommand asked (File e) (File told)
+pub file_names : {S T C : Type 0} (asked : List (Holder S T C)) (e told : FileError) → NamesKeys asked e told
+    → NamesCommand asked (File e) (File told)
 file_names asked e told (inl (is, none)) = inl (ap File is, λ same. none (same_file _ _ same))
 file_names asked e told (inr (nobody, is, has)) = inr (ap File nobody, ap File is, has)
 

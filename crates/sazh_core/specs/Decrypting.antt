@@ -35,7 +35,8 @@ module _ {W T : Type 0} (write : WriteMembers W) where
   ThenFlushed (Err e) between new result = (result ≡ Err e) × (new ≡ between)
   ThenFlushed (Ok done) between new result = IsFlushed between new result
 
-module _ {I S R W T : Type 0} (unwraps : I → List StanzaValue → UnwrapAnswer → I → Type 0) (suite : SuiteMembers S) (read : ReadMembers R) (write : WriteMembers W)
+module _ {I S R W T : Type 0} (unwraps : I → List StanzaValue → UnwrapAnswer → I → Type 0) (suite : SuiteMembers S) (read : ReadMembers R)
+    (write : WriteMembers W)
     (identities asked : List I) where
   -- A whole file was decrypted by the first of the identities that answers, and then the writer was flushed.
   abbrev pub DecryptsThenFlushes : R → W → W → Result T FileError → Type 0
@@ -91,7 +92,8 @@ module _ {I R T W : Type 0} (unwraps : I → List StanzaValue → UnwrapAnswer �
     pub refused : IfErr result (λ e. IsDecryptError e → new ≡ old)
     pub why : IfErr result (DecryptsUnless (λ refusal. (text : T) × ReadsText read text_read input text
         × IsNotOpened unwraps text_read identities asked text refusal))
-    -- The cause of an error of the reader or the writer: memory, or, once the file was opened, a seek or a read of its plaintext refused, or the writer.
+    -- The cause of an error of the reader or the writer: memory, or, once the
+    -- file was opened, a seek or a read of its plaintext refused, or the writer.
     pub io : IfErr result (IfIo (λ e. (e ≡ OutOfMemory) ⊎ ((text : T) × ReadsText read text_read input text
         × (stream : StreamReader S T suite text_read) × IsOpened unwraps identities asked text stream
         × CopyRefuses (λ e. IsSeekRefusal (OrTooLong below) e ⊎ TriedAgain stream_read.refuses stream e) (Retried write.refuses old count) e)))
@@ -104,12 +106,14 @@ module _ {I R T W : Type 0} (unwraps : I → List StanzaValue → UnwrapAnswer �
   -- So many bytes were appended so, and then the writer was flushed.
   abbrev pub GivesPart : {S V : Type 0} (suite : SuiteMembers S) (read : ReadMembers R) (text_read : ReadMembers T) → WriteMembers W
       → ReadMembers (StreamReader S T suite text_read) → (Error → Type 0) → List I → List I → ℕ → ℕ → R → W → W → Result V FileError → Type 0
-  GivesPart {S} {V} suite read text_read write stream_read below identities asked place count input old new result = (between : W) × (done : Result V FileError)
+  GivesPart {S} {V} suite read text_read write stream_read below identities asked place count input old new result =
+      (between : W) × (done : Result V FileError)
       × SeeksPart suite read text_read write stream_read below identities asked place count input old between done
       × ThenFlushed write done between new result
 
   -- A file that a text carries was rewritten as one of the standard, and then the writer was flushed; or memory for reading armor was refused.
-  abbrev pub Migrated : {V : Type 0} → Seal → ReadMembers R → ReadMembers T → WriteMembers W → List I → List I → R → W → W → Result V FileError → Type 0
+  abbrev pub Migrated : {V : Type 0} → Seal → ReadMembers R → ReadMembers T → WriteMembers W → List I → List I → R → W → W → Result V FileError
+      → Type 0
   Migrated {V} seal_of read text_read write identities asked input old new result =
       (IsErrAnd result (λ e. e ≡ Io OutOfMemory) × (new ≡ old) × (asked ≡ identities))
       ⊎ ((text : T) × (last : T) × (between : W) × (done : Result V DecryptError) × ReadsText read text_read input text

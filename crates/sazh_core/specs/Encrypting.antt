@@ -61,5 +61,6 @@ module _ {B T : Type 0} (gives : B → ℕ → Option (List ℕ) → B → Type 
     pub front : IsTrue (read.tells input) → IsTrue (write.tells old) → IfErr result (IfFile (IfIo (λ _.
         (file : Prepared) × PreparesFrom (Ok file) × AppendsFront write.appended
         (text_of format (file_text suite.seal_of file.file_key file.stanzas file.nonce (read.rest input).bytes)) old new)))
-    -- After such an error the file was prepared, and the reader refuses, or the writer, memory or the length does: the reader only where it has a fault.
+    -- After such an error the file was prepared, and the reader refuses, or the
+    -- writer, memory or the length does: the reader only where it has a fault.
     pub io : IfErr result (IfFile (IfIo (λ e. ((file : Prepared) × PreparesFrom (Ok file)) × RefusesWriting read write input last old new e)))

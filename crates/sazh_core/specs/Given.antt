@@ -16,7 +16,7 @@ use Rattle.sazh_core.specs.Decrypting.{DecryptsThenFlushes, DecryptsSome, GivesF
 use Rattle.sazh_core.specs.Keyring.{AreHolders, RefusesKeyring}
 use Rattle.sazh_core.specs.Locked.{HasLocked}
 use Rattle.sazh_core.specs.Measuring.{IsMeasured, WasGiven}
-use Rattle.sazh_core.specs.Opening.{OpensHeader}
+use Rattle.sazh_core.specs.Opening.{FindsOpener}
 use Rattle.sazh_core.specs.Rekeying.{KeepsPlaintext, Rekeys}
 use Rattle.sazh_core.specs.Words.{AreOfWords, RefusesWords}
 use Rattle.sazh_core.specs.declared.callbacks.GivesOnce.{GivesOnce}
@@ -49,12 +49,14 @@ abbrev pub AnswersKeys : {S T C G V : Type 0} → List (Holder S T C) → Result
 AnswersKeys asked done result = (Answers done result × (done ≡ Err (Decrypt NoMatchingKeys) → HasLocked asked false))
     ⊎ ((done ≡ Err (Decrypt NoMatchingKeys)) × (result ≡ Err (Command (Decrypt KeyDecryptionFailed))) × HasLocked asked true)
 
-module _ {S T W V : Type 0} (unwraps : Holder S T GivesOnce → List StanzaValue → UnwrapAnswer → Holder S T GivesOnce → Type 0) (suite : SuiteMembers S)
+module _ {S T W V : Type 0} (unwraps : Holder S T GivesOnce → List StanzaValue → UnwrapAnswer → Holder S T GivesOnce → Type 0)
+    (suite : SuiteMembers S)
     (text_read : ReadMembers T) (write : WriteMembers W) (given : Keyring) where
   -- Those who decrypt with what was given are asked by the command, in their order: they, and what they are after it.
   abbrev pub WithKeyring : Type 0 → (List (Holder S T GivesOnce) → List (Holder S T GivesOnce) → Result V FileError → Type 0)
       → Result V (GivenError KeyringError FileError) → Type 0
-  WithKeyring Untouched Does result = WithGiven {X = List (Holder S T GivesOnce) × List (Holder S T GivesOnce)} (RefusesKeyring text_read S given) Untouched
+  WithKeyring Untouched Does result = WithGiven {X = List (Holder S T GivesOnce) × List (Holder S T GivesOnce)}
+      (RefusesKeyring text_read S given) Untouched
       (λ x. AreHolders text_read given x.0) (λ x done. Does x.0 x.1 done) (λ x done told. AnswersKeys x.1 done told) result
 
   -- A whole file was decrypted so.
@@ -70,7 +72,8 @@ module _ {S T W V : Type 0} (unwraps : Holder S T GivesOnce → List StanzaValue
       (λ holders asked done. DecryptsSome unwraps suite read write holders asked place count input last old new done) result
 
   -- The same of a file in which is sought.
-  abbrev pub GivesPartBy : {R A : Type 0} → ReadMembers R → (armored_read : ReadMembers A) → ReadMembers (StreamReader S A suite armored_read) → (Error → Type 0)
+  abbrev pub GivesPartBy : {R A : Type 0} → ReadMembers R → (armored_read : ReadMembers A) → ReadMembers (StreamReader S A suite armored_read)
+      → (Error → Type 0)
       → ℕ → ℕ → R → W → W → Result V (GivenError KeyringError FileError) → Type 0
   GivesPartBy {R} {A} read armored_read stream_read below place count input old new result = WithKeyring (new ≡ old)
       (λ holders asked done. GivesPart unwraps suite read armored_read write stream_read below holders asked place count input old new done) result
@@ -81,11 +84,12 @@ module _ {S T W V : Type 0} (unwraps : Holder S T GivesOnce → List StanzaValue
       (λ holders asked done. Migrated unwraps suite.seal_of read armored_read write holders asked input old new done) result
 
 -- One of those who decrypt with what was given opens a file with this header.
-abbrev pub OpensBy : {S T : Type 0} → (Holder S T GivesOnce → List StanzaValue → UnwrapAnswer → Holder S T GivesOnce → Type 0) → ReadMembers T
+abbrev pub FindsOpenerBy : {S T : Type 0} → (Holder S T GivesOnce → List StanzaValue → UnwrapAnswer → Holder S T GivesOnce → Type 0) → ReadMembers T
     → Keyring → HeaderValue → Result ℕ (GivenError KeyringError FileError) → Type 0
-OpensBy {S} {T} unwraps text_read given h result = WithGiven {X = List (Holder S T GivesOnce) × List (Holder S T GivesOnce)} (RefusesKeyring text_read S given)
+FindsOpenerBy {S} {T} unwraps text_read given h result =
+    WithGiven {X = List (Holder S T GivesOnce) × List (Holder S T GivesOnce)} (RefusesKeyring text_read S given)
     (Unit {0}) (λ x. AreHolders text_read given x.0)
-    (λ x done. (own : Result ℕ DecryptError) × OpensHeader unwraps h x.0 x.1 own × (done ≡ result_map_both (λ n. n) Decrypt own))
+    (λ x done. (own : Result ℕ DecryptError) × FindsOpener unwraps h x.0 x.1 own × (done ≡ result_map_both (λ n. n) Decrypt own))
     (λ x done told. AnswersKeys x.1 done told) result
 
 -- what was given to encrypt a file to others is refused
@@ -102,7 +106,8 @@ module _ {S T B W V : Type 0} (unwraps : Holder S T GivesOnce → List StanzaVal
     (gives : B → ℕ → Option (List ℕ) → B → Type 0) (wraps : List ℕ → List ℕ → List ℕ → WrapAnswer → List ℕ → Type 0) (suite : SuiteMembers S)
     (text_read : ReadMembers T) (write : WriteMembers W) (given : Keyring) (words : List Word) where
   -- The plaintext of a file that those who decrypt with what was given open was encrypted to the recipients that the words name.
-  abbrev pub RekeysBy : {R A : Type 0} → ReadMembers R → (armored_read : ReadMembers A) → ReadMembers (StreamReader S A suite armored_read) → Format → B → B → R → W → W
+  abbrev pub RekeysBy : {R A : Type 0} → ReadMembers R → (armored_read : ReadMembers A) → ReadMembers (StreamReader S A suite armored_read)
+      → Format → B → B → R → W → W
       → Result V (GivenError RekeyError CommandError) → Type 0
   RekeysBy {R} {A} read armored_read stream_read format before after input old new result =
       WithGiven {X = List (Holder S T GivesOnce) × List (Holder S T GivesOnce) × List (List ℕ)} (RefusesRekey text_read S suite.public_of given words)
@@ -121,8 +126,8 @@ module _ {S T : Type 0} (unwraps : Holder S T GivesOnce → List StanzaValue →
       × DecryptsBy unwraps suite text_read write given read input last old new done
       × MatchResult result (λ measured. IsOk done × ((text : List ℕ) → WasGiven new text → IsMeasured measured text)) (λ e. done ≡ Err e))
 
-  -- A success says that the input carried a file of a plaintext of which these are the length and the digest, under the file key that the first of those
-  -- who decrypt with what was given gives who answers: over a steady reader that tells its bytes.
+  -- A success says that the input carried a file of a plaintext of which these are the length and the digest, under the file
+  -- key that the first of those who decrypt with what was given gives who answers: over a steady reader that tells its bytes.
   abbrev pub VerifiesFile : {R : Type 0} → ReadMembers R → R → Result Measured (GivenError KeyringError FileError) → Type 0
   VerifiesFile {R} read input result = IsTrue (read.tells input && read.steady input) → IfOk result (λ measured.
       (holders : List (Holder S T GivesOnce)) × (asked : List (Holder S T GivesOnce)) × AreHolders text_read given holders

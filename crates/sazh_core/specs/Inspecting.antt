@@ -47,7 +47,7 @@ pub record IsInspected (text : Stretch) (inspection : Inspection) : Type 0 where
 
 module _ {T : Type 0} (read : ReadMembers T) where
   -- A header stands at the front, and so many bytes were read, up to and with all of it.
-  pub record HasHeader (text : T) (count : ℕ) : Type 0 where
+  pub record HasReadHeader (text : T) (count : ℕ) : Type 0 where
     pub header : HeaderValue
     pub is_header : IsHeaderValue header
     pub rest : List ℕ
@@ -55,16 +55,17 @@ module _ {T : Type 0} (read : ReadMembers T) where
     pub within : length (header_text header.stanzas header.mac) ≤ count
 
   -- a header stands at the front, and 2^64 bytes or more follow it
-  abbrev pub IsTooLong : T → ℕ → Type 0
-  IsTooLong text count = (front : HasHeader text count) × (2 ^ 64 ≤ length front.rest)
+  abbrev pub HasTooLongRest : T → ℕ → Type 0
+  HasTooLongRest text count = (front : HasReadHeader text count) × (2 ^ 64 ≤ length front.rest)
 
   -- Why a text isn't inspected, and how many of its bytes were read.
   abbrev pub RefusesInspection : T → InspectionError → Type 0
   RefusesInspection text (error.Header count why) = IsTrue (read.tells text) → (last : T) × (read.place last ≡ count)
-      × RefusesHeader canonical (read.faults text) (read.faults last) (read.rest text) (read.rest last) (read.place text) (read.place last) (decrypt_refusal why)
+      × RefusesHeader canonical (read.faults text) (read.faults last) (read.rest text) (read.rest last) (read.place text) (read.place last)
+      (decrypt_refusal why)
   RefusesInspection text (error.Rest count why) =
-      ((why ≡ io.OutOfMemory) ⊎ ((why ≡ io.TooLong) × (IsTrue (read.tells text) → IsTooLong text count)) ⊎ TriedAgain read.refuses text why)
-      × (IsTrue (read.tells text) → HasHeader text count)
+      ((why ≡ io.OutOfMemory) ⊎ ((why ≡ io.TooLong) × (IsTrue (read.tells text) → HasTooLongRest text count)) ⊎ TriedAgain read.refuses text why)
+      × (IsTrue (read.tells text) → HasReadHeader text count)
   RefusesInspection text error.OutOfMemory = ⊥
 
   -- What is told of a text.

@@ -56,7 +56,8 @@ FoundOrNone (Err e) result = ((e ≡ decrypt.OutOfMemory) × (result ≡ Err err
 module _ {S T : Type 0} where
   -- those who have the keys of these entries, in their order, of which none is a plugin's
   abbrev pub AreKeys : List Entry → List (Holder S T GivesOnce) → Type 0
-  AreKeys entries holders = (plugin_names entries ≡ []) × (native_secrets entries ≢ []) × (holders ≡ map (λ secret. holder.Key secret) (native_secrets entries))
+  AreKeys entries holders = (plugin_names entries ≡ []) × (native_secrets entries ≢ [])
+      × (holders ≡ map (λ secret. holder.Key secret) (native_secrets entries))
 
   -- who knows the passphrase of a text
   abbrev pub KnowsPassphrase : List ℕ → List (Holder S T GivesOnce) → Type 0
@@ -101,8 +102,8 @@ module _ {T : Type 0} (text_read : ReadMembers T) where
 
   module _ {S : Type 0} where
     -- what was found of a file: who asks for its passphrase, or that it is none under one
-    abbrev pub IsFound : List ℕ → List ℕ → GivesOnce → Result (Option (Protected S T GivesOnce)) KeyringError → Type 0
-    IsFound name bytes asked result = MatchResult result
+    abbrev pub IsFoundProtected : List ℕ → List ℕ → GivesOnce → Result (Option (Protected S T GivesOnce)) KeyringError → Type 0
+    IsFoundProtected name bytes asked result = MatchResult result
         (λ found. MatchOption found (IsNotProtected S bytes) (λ identity. IsProtected name bytes asked identity)) (λ e. e ≡ error.OutOfMemory)
 
     -- who has the identities of a file under the passphrase that a text gives
@@ -124,7 +125,8 @@ module _ {T : Type 0} (text_read : ReadMembers T) where
     -- those of files, each file's after those of the files before it
     abbrev pub AreOfFiles : List KeyFile → Option (List ℕ) → List (Holder S T GivesOnce) → Type 0
     AreOfFiles [] given holders = holders ≡ []
-    AreOfFiles (file ∷ more) given holders = (first : List (Holder S T GivesOnce)) × (others : List (Holder S T GivesOnce)) × (holders ≡ first ++ others)
+    AreOfFiles (file ∷ more) given holders =
+        (first : List (Holder S T GivesOnce)) × (others : List (Holder S T GivesOnce)) × (holders ≡ first ++ others)
         × AreOfFile file given first × AreOfFiles more given others
 
     -- those of what a command line gives: of files, or who knows a passphrase

@@ -16,24 +16,25 @@ pub record WereAsked {I A : Type 0} (asks : I → Option A → I → Type 0) (be
   pub later : drop i now ≡ drop i before
 
 -- what one answers to a header's stanzas
-abbrev pub Asks : {I : Type 0} → (I → List StanzaValue → UnwrapAnswer → I → Type 0) → HeaderValue → I → UnwrapAnswer → I → Type 0
-Asks unwraps h identity answer then = Unwraps unwraps identity h.stanzas answer then
+abbrev pub AnswersHeader : {I : Type 0} → (I → List StanzaValue → UnwrapAnswer → I → Type 0) → HeaderValue → I → UnwrapAnswer → I → Type 0
+AnswersHeader unwraps h identity answer then = Unwraps unwraps identity h.stanzas answer then
 
 module _ {I : Type 0} (unwraps : I → List StanzaValue → UnwrapAnswer → I → Type 0) (h : HeaderValue) (before after : List I) where
   -- this is the answer of the one of this number, counted from 0, and of nobody before it
-  abbrev pub AnswersAt : ℕ → Result (List ℕ) DecryptRefusal → Type 0
-  AnswersAt number answer = (first : Decides (Asks unwraps h) before answer after) × (number ≡ length first.passed)
+  abbrev pub AnswersByNumber : ℕ → Result (List ℕ) DecryptRefusal → Type 0
+  AnswersByNumber number answer = (first : Decides (AnswersHeader unwraps h) before answer after) × (number ≡ length first.passed)
 
   -- The one of this number, counted from 0, is the first that answers, with a file key under which the header's MAC is right.
   pub record OpensByNumber (number : ℕ) : Type 0 where
     pub file_key : List ℕ
-    pub first : AnswersAt number (Ok file_key)
+    pub first : AnswersByNumber number (Ok file_key)
     pub right : h.mac ≡ header_mac file_key (covered_text h.stanzas)
 
   -- Nobody answers, or who answers first refuses, or the MAC is wrong under its file key.
-  abbrev pub RefusesHeader : DecryptError → Type 0
-  RefusesHeader e = (answer : UnwrapAnswer) × FirstThatAnswers (Asks unwraps h) before answer after × RefusesKey (decided answer) h (decrypt_refusal e)
+  abbrev pub OpensByNobody : DecryptError → Type 0
+  OpensByNobody e = (answer : UnwrapAnswer) × FirstThatAnswers (AnswersHeader unwraps h) before answer after
+      × RefusesKey (decided answer) h (decrypt_refusal e)
 
   -- which of them opens the header, or why none does
-  abbrev pub OpensHeader : Result ℕ DecryptError → Type 0
-  OpensHeader result = IfOk result OpensByNumber × IfErr result RefusesHeader
+  abbrev pub FindsOpener : Result ℕ DecryptError → Type 0
+  FindsOpener result = IfOk result OpensByNumber × IfErr result OpensByNobody

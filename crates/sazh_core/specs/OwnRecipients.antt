@@ -37,17 +37,17 @@ RefusesEntries entries e = (e ≡ error.OutOfMemory)
 
 module _ {T : Type 0} (text_read : ReadMembers T) (S : Type 0) where
   -- why bytes of which this line is no identity aren't those of a file of identities, or its recipients can't be told
-  abbrev pub RefusesLine : ℕ → List ℕ → IdentitiesError → Type 0
-  RefusesLine line bytes e = (e ≡ error.OutOfMemory)
+  abbrev pub RefusesIdentityLine : ℕ → List ℕ → IdentitiesError → Type 0
+  RefusesIdentityLine line bytes e = (e ≡ error.OutOfMemory)
       ⊎ ((e ≡ error.NotIdentity line) × IsNotProtected text_read S bytes)
       ⊎ ((e ≡ error.Encrypted) × IsUnderPassphrase text_read S bytes)
 
   -- why bytes aren't those of a file of identities, or its recipients can't be told
-  abbrev pub RefusesIdentities : List ℕ → IdentitiesError → Type 0
-  RefusesIdentities bytes e = (e ≡ error.OutOfMemory)
+  abbrev pub RefusesOwnIdentities : List ℕ → IdentitiesError → Type 0
+  RefusesOwnIdentities bytes e = (e ≡ error.OutOfMemory)
       ⊎ ((e ≡ error.TooLong) × IsTooLong most_file_bytes (whole bytes))
       ⊎ ((entries : List Entry) × AreEntries (lines bytes) entries × RefusesEntries entries e)
-      ⊎ ((line : ℕ) × IsFirstBad (limited most_file_bytes (whole bytes)) line × RefusesLine line bytes e)
+      ⊎ ((line : ℕ) × IsFirstBad (limited most_file_bytes (whole bytes)) line × RefusesIdentityLine line bytes e)
 
 -- the text of recipients: a line of each, in their order, which ends with LF
 abbrev pub recipients_text : List (List ℕ) → List ℕ

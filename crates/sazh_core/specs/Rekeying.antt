@@ -19,7 +19,8 @@ use Rattle.sazh_core.specs.declared.error.CommandError.{CommandError}
 use Rattle.sazh_core.specs.declared.error.CommandError.TheVariants.{File}
 
 -- Memory for reading armor was refused, or the file that the text carries wasn't opened by these identities.
-abbrev pub NotOpened : {I R A : Type 0} → (I → List StanzaValue → UnwrapAnswer → I → Type 0) → ReadMembers R → ReadMembers A → List I → List I → R → FileError → Type 0
+abbrev pub NotOpened : {I R A : Type 0} → (I → List StanzaValue → UnwrapAnswer → I → Type 0) → ReadMembers R → ReadMembers A → List I → List I → R
+    → FileError → Type 0
 NotOpened {I} {R} {A} unwraps read text_read identities asked input e = (e ≡ Io OutOfMemory)
     ⊎ ((error : DecryptError) × (e ≡ Decrypt error) × ((text : A) × ReadsText read text_read input text
     × IsNotOpened unwraps text_read identities asked text (decrypt_refusal error)))
@@ -35,11 +36,13 @@ module _ {I B T S W V : Type 0} (unwraps : I → List StanzaValue → UnwrapAnsw
       ((e : FileError) × (result ≡ Err (File e)) × NotOpened unwraps read text_read identities asked input e × (after ≡ before) × (new ≡ old))
       ⊎ ((text : A) × ReadsText read text_read input text × ((stream : StreamReader S A suite text_read) × (last : StreamReader S A suite text_read)
       × IsOpened unwraps identities asked text stream
-      × AppendsEncrypted gives wraps recipients (draws_for_keys (length recipients)) before after suite stream_read write format stream last old new result))
+      × AppendsEncrypted gives wraps recipients
+      (draws_for_keys (length recipients)) before after suite stream_read write format stream last old new result))
 
   -- Of a file for the identities a success appended a file of the same plaintext to the recipients.
   abbrev pub KeepsPlaintext : {R : Type 0} → ReadMembers R → R → W → W → Result V CommandError → Type 0
-  KeepsPlaintext {R} read input old new result = IsTrue (read.tells input && read.steady input) → IsTrue (read.rest input).ends_well → IsTrue (write.tells old)
+  KeepsPlaintext {R} read input old new result =
+      IsTrue (read.tells input && read.steady input) → IsTrue (read.rest input).ends_well → IsTrue (write.tells old)
       → (file plain : List ℕ) → Carries (read.rest input).bytes file → IsFileFor suite.seal_of (FirstAnswer unwraps identities) plain file
       → OnOk result ((prepared : Prepared) × PreparesFrom gives wraps recipients (draws_for_keys (length recipients)) before after (Ok prepared)
       × AppendsFile suite.seal_of write.appended (text_of format) prepared (whole plain) old new)

@@ -38,25 +38,25 @@ RefusesRecipientWord number text (error.Identities word why) = ⊥
 RefusesRecipientWord number text error.OutOfMemory = Unit {0}
 
 -- why the word of this number isn't a file of recipients
-abbrev pub RefusesRecipients : ℕ → List ℕ → WordsError → Type 0
-RefusesRecipients number bytes (error.File word why) = (word ≡ number) × file.RefusesRecipientBytes why bytes
-RefusesRecipients number bytes (error.NotRecipient word why) = ⊥
-RefusesRecipients number bytes (error.Identities word why) = ⊥
-RefusesRecipients number bytes error.OutOfMemory = ⊥
+abbrev pub RefusesRecipientFileWord : ℕ → List ℕ → WordsError → Type 0
+RefusesRecipientFileWord number bytes (error.File word why) = (word ≡ number) × file.RefusesRecipientBytes why bytes
+RefusesRecipientFileWord number bytes (error.NotRecipient word why) = ⊥
+RefusesRecipientFileWord number bytes (error.Identities word why) = ⊥
+RefusesRecipientFileWord number bytes error.OutOfMemory = ⊥
 
 module _ {T : Type 0} (text_read : ReadMembers T) (S : Type 0) where
   -- why the word of this number isn't a file of identities whose recipients can be told
-  abbrev pub RefusesIdentities : ℕ → List ℕ → WordsError → Type 0
-  RefusesIdentities number bytes (error.Identities word why) = (word ≡ number) × own.RefusesIdentities text_read S bytes why
-  RefusesIdentities number bytes (error.NotRecipient word why) = ⊥
-  RefusesIdentities number bytes (error.File word why) = ⊥
-  RefusesIdentities number bytes error.OutOfMemory = ⊥
+  abbrev pub RefusesIdentityFileWord : ℕ → List ℕ → WordsError → Type 0
+  RefusesIdentityFileWord number bytes (error.Identities word why) = (word ≡ number) × own.RefusesOwnIdentities text_read S bytes why
+  RefusesIdentityFileWord number bytes (error.NotRecipient word why) = ⊥
+  RefusesIdentityFileWord number bytes (error.File word why) = ⊥
+  RefusesIdentityFileWord number bytes error.OutOfMemory = ⊥
 
   -- why the word of this number names no recipients, or can't be told to
   abbrev pub RefusesWord : ℕ → Word → WordsError → Type 0
   RefusesWord number (Text text) e = RefusesRecipientWord number (string_bytes text) e
-  RefusesWord number (File bytes) e = RefusesRecipients number bytes.items e
-  RefusesWord number (Identities bytes) e = RefusesIdentities number bytes.items e
+  RefusesWord number (File bytes) e = RefusesRecipientFileWord number bytes.items e
+  RefusesWord number (Identities bytes) e = RefusesIdentityFileWord number bytes.items e
 
   -- Of these words the first that is refused, and the recipients of those before it.
   pub record IsFirstRefused (public_of : List ℕ → List ℕ) (all : List Word) (e : WordsError) : Type 0 where

@@ -28,13 +28,13 @@ impl Counting {
 impl Write for Counting {
     ghost use Rattle.std.specs.Prelude.{true, OnErr};
     ghost use Rattle.std.proofs.Common.{arith};
-    ghost use Rattle.sazh_core.specs.Counting.{CountedBytes, RefusesCount, counted_joined, counted_nothing, refuses_more_of_them};
+    ghost use Rattle.sazh_core.specs.Counting.{CountedBytes, CountsTooMany, counted_joined, counted_nothing, refuses_more_of_them};
 
     ghost tells = { λ _. true };
 
     ghost faults = { λ _. 0 };
 
-    ghost refuses = { RefusesCount };
+    ghost refuses = { CountsTooMany };
 
     ghost appended = { CountedBytes };
 

@@ -33,8 +33,10 @@ pub fn decrypt<S: Suite, I: Identity, R: Read, W: Write>(
     reader: &mut R,
     writer: &mut W,
 ) -> Result<(), FileError>
-    ensures steps { DecryptsThenFlushes I.unwraps ⟦<S as Suite>⟧ ⟦<R as Read>⟧ ⟦<W as Write>⟧ identities.old identities.new reader.old writer.old writer.new result }
-    ensures file { GivesFile I.unwraps ⟦<S as Suite>⟧ ⟦<R as Read>⟧ ⟦<W as Write>⟧ identities.old identities.new reader.old writer.old writer.new result }
+    ensures steps { DecryptsThenFlushes I.unwraps ⟦<S as Suite>⟧ ⟦<R as Read>⟧
+        ⟦<W as Write>⟧ identities.old identities.new reader.old writer.old writer.new result }
+    ensures file { GivesFile I.unwraps ⟦<S as Suite>⟧ ⟦<R as Read>⟧
+        ⟦<W as Write>⟧ identities.old identities.new reader.old writer.old writer.new result }
     ensures refused { IfErr result (λ e. IsDecryptError e → writer.new ≡ writer.old) }
 {
     match decrypt_all::<S, I, R, W>(alloc, identities, reader, writer) {
@@ -56,7 +58,8 @@ pub fn decrypt_part<S: Suite, I: Identity, R: Read, W: Write>(
     reader: &mut R,
     writer: &mut W,
 ) -> Result<(), FileError>
-    ensures { DecryptsSome I.unwraps ⟦<S as Suite>⟧ ⟦<R as Read>⟧ ⟦<W as Write>⟧ identities.old identities.new place count reader.old reader.new writer.old writer.new result }
+    ensures { DecryptsSome I.unwraps ⟦<S as Suite>⟧ ⟦<R as Read>⟧
+        ⟦<W as Write>⟧ identities.old identities.new place count reader.old reader.new writer.old writer.new result }
 {
     match at::<S, I, R, W>(alloc, identities, place, count, reader, writer) {
         Err(error) => Err(error),
@@ -74,7 +77,8 @@ fn part_of<S: Suite, I: Identity, R: Seek + Drop, W: Write>(
     writer: &mut W,
 ) -> Result<(), FileError>
     ensures { SeeksPart I.unwraps ⟦<S as Suite>⟧ ⟦<R as Read>⟧ ⟦<ArmoredReader<BufReader<R>> as Read>⟧ ⟦<W as Write>⟧
-        ⟦<StreamReader<S, ArmoredReader<BufReader<R>>> as Read>⟧ ⟦<ArmoredReader<BufReader<R>> as Seek>⟧.seek_refuses identities.old identities.new place count «file» writer.old writer.new result }
+        ⟦<StreamReader<S, ArmoredReader<BufReader<R>>> as Read>⟧
+        ⟦<ArmoredReader<BufReader<R>> as Seek>⟧.seek_refuses identities.old identities.new place count «file» writer.old writer.new result }
 {
     let text = match ArmoredReader::new(alloc, file) {
         Err(error) => return Err(FileError::Io(error)),
@@ -105,7 +109,8 @@ pub fn seek_part<S: Suite, I: Identity, R: Seek + Drop, W: Write>(
     writer: &mut W,
 ) -> Result<(), FileError>
     ensures { GivesPart I.unwraps ⟦<S as Suite>⟧ ⟦<R as Read>⟧ ⟦<ArmoredReader<BufReader<R>> as Read>⟧ ⟦<W as Write>⟧
-        ⟦<StreamReader<S, ArmoredReader<BufReader<R>>> as Read>⟧ ⟦<ArmoredReader<BufReader<R>> as Seek>⟧.seek_refuses identities.old identities.new place count «file» writer.old writer.new result }
+        ⟦<StreamReader<S, ArmoredReader<BufReader<R>>> as Read>⟧
+        ⟦<ArmoredReader<BufReader<R>> as Seek>⟧.seek_refuses identities.old identities.new place count «file» writer.old writer.new result }
 {
     match part_of::<S, I, R, W>(alloc, identities, place, count, file, writer) {
         Err(error) => Err(error),

@@ -72,7 +72,8 @@ pub fn encrypt_to_keys<S: Suite, B: RandomBytes, R: Read, W: Write>(
     reader: &mut R,
     writer: &mut W,
 ) -> Result<(), CommandError>
-    ensures { AppendsEncrypted B.gives ⟦<x25519::Recipient<S> as Recipient>⟧.wraps recipients.now (draws_for_keys (length recipients.now)) source.old source.new
+    ensures { AppendsEncrypted B.gives ⟦<x25519::Recipient<S> as Recipient>⟧.wraps recipients.now
+        (draws_for_keys (length recipients.now)) source.old source.new
         ⟦<S as Suite>⟧ ⟦<R as Read>⟧ ⟦<W as Write>⟧ format reader.old reader.new writer.old writer.new result }
 {
     let Some(count) = count_for(recipients.len()) else {
@@ -101,7 +102,8 @@ pub fn encrypt_under<S: Suite, B: RandomBytes, R: Read, W: Write>(
     reader: &mut R,
     writer: &mut W,
 ) -> Result<(), CommandError>
-    ensures { AppendsEncrypted B.gives ⟦<scrypt::Recipient<S> as Recipient>⟧.wraps (record { passphrase = passphrase; factor = 18 } ∷ []) draws_for_passphrase source.old source.new
+    ensures { AppendsEncrypted B.gives ⟦<scrypt::Recipient<S> as Recipient>⟧.wraps
+        (record { passphrase = passphrase; factor = 18 } ∷ []) draws_for_passphrase source.old source.new
         ⟦<S as Suite>⟧ ⟦<R as Read>⟧ ⟦<W as Write>⟧ format reader.old reader.new writer.old writer.new result }
 {
     let recipient: scrypt::Recipient<S> = recipient_of(passphrase);

@@ -1,4 +1,5 @@
-//! What is wrong with files of recipients, of identities and of a passphrase, and with a source of random bytes, and why a command on a file isn't done.
+//! What is wrong with files of recipients, of identities and of a passphrase,
+//! and with a source of random bytes, and why a command on a file isn't done.
 ghost use Rattle.std.specs.Prelude.{◌≡◌};
 ghost use Rattle.sazh_core.specs.declared.error.CommandError.TheVariants as command;
 

@@ -2,7 +2,7 @@
 ghost use Rattle.std.specs.Prelude.{◌≡◌, List, ℕ, [], ◌∷◌, length};
 ghost use Rattle.age.specs.EncryptErrors.{encrypt_refusal};
 ghost use Rattle.sazh_core.specs.Encrypting.{AppendsEncrypted, draws_for_keys, draws_for_passphrase};
-ghost use Rattle.sazh_core.specs.Given.{Answers, DecryptsBy, DecryptsSomeBy, GivesPartBy, MigratedBy, OpensBy, RekeysBy, Verifies, VerifiesFile, WithGiven};
+ghost use Rattle.sazh_core.specs.Given.{Answers, DecryptsBy, DecryptsSomeBy, GivesPartBy, MigratedBy, FindsOpenerBy, RekeysBy, Verifies, VerifiesFile, WithGiven};
 ghost use Rattle.sazh_core.specs.Locked.{HasLocked, IsLocked, NamesCommand, NamesKeys, is_for_nobody, tells_wrong};
 ghost use Rattle.sazh_core.specs.Passphrase.{RefusesPassphrase, first_line};
 ghost use Rattle.sazh_core.specs.Words.{AreOfWords, RefusesWords};
@@ -79,7 +79,8 @@ pub fn encrypt_under_text<S: Suite, B: RandomBytes, R: Read, W: Write>(
 ) -> Result<(), GivenError<PassphraseError, CommandError>>
     ensures { WithGiven (λ e. RefusesPassphrase e text.now) ((source.new ≡ source.old) × (reader.new ≡ reader.old) × (writer.new ≡ writer.old))
         (λ (passphrase : List ℕ). passphrase ≡ first_line text.now)
-        (λ passphrase done. AppendsEncrypted B.gives ⟦<scrypt::Recipient<S> as Recipient>⟧.wraps (record { passphrase = passphrase; factor = 18 } ∷ []) draws_for_passphrase
+        (λ passphrase done. AppendsEncrypted B.gives ⟦<scrypt::Recipient<S> as Recipient>⟧.wraps
+        (record { passphrase = passphrase; factor = 18 } ∷ []) draws_for_passphrase
         source.old source.new ⟦<S as Suite>⟧ ⟦<R as Read>⟧ ⟦<W as Write>⟧ format reader.old reader.new writer.old writer.new done)
         (λ _ done told. Answers done told) result }
 {
@@ -173,7 +174,8 @@ pub fn decrypt_by<'a, S: Suite, R: Read, W: Write>(
     reader: &mut R,
     writer: &mut W,
 ) -> Result<(), GivenError<KeyringError, FileError>>
-    ensures { DecryptsBy ⟦<Holder<S, ArmoredReader<BufReader<Bytes<'a>>>, GivesOnce> as Identity>⟧.unwraps ⟦<S as Suite>⟧ ⟦<ArmoredReader<BufReader<Bytes<'a>>> as Read>⟧ ⟦<W as Write>⟧ keyring.now ⟦<R as Read>⟧ reader.old reader.new writer.old writer.new result }
+    ensures { DecryptsBy ⟦<Holder<S, ArmoredReader<BufReader<Bytes<'a>>>, GivesOnce> as Identity>⟧.unwraps ⟦<S as Suite>⟧
+        ⟦<ArmoredReader<BufReader<Bytes<'a>>> as Read>⟧ ⟦<W as Write>⟧ keyring.now ⟦<R as Read>⟧ reader.old reader.new writer.old writer.new result }
 {
     match holders_of::<S>(alloc, keyring) {
         Err(error) => Err(GivenError::Given(error)),
@@ -221,7 +223,8 @@ pub fn opens_by<'a, S: Suite>(
     keyring: &'a Keyring,
     header: &HeaderV1,
 ) -> Result<usize, GivenError<KeyringError, FileError>>
-    ensures { OpensBy ⟦<Holder<S, ArmoredReader<BufReader<Bytes<'a>>>, GivesOnce> as Identity>⟧.unwraps ⟦<ArmoredReader<BufReader<Bytes<'a>>> as Read>⟧
+    ensures { FindsOpenerBy ⟦<Holder<S, ArmoredReader<BufReader<Bytes<'a>>>, GivesOnce> as Identity>⟧.unwraps
+        ⟦<ArmoredReader<BufReader<Bytes<'a>>> as Read>⟧
         keyring.now header.now result }
 {
     match holders_of::<S>(alloc, keyring) {
@@ -256,7 +259,9 @@ pub fn decrypt_part_by<'a, S: Suite, R: Read, W: Write>(
     reader: &mut R,
     writer: &mut W,
 ) -> Result<(), GivenError<KeyringError, FileError>>
-    ensures { DecryptsSomeBy ⟦<Holder<S, ArmoredReader<BufReader<Bytes<'a>>>, GivesOnce> as Identity>⟧.unwraps ⟦<S as Suite>⟧ ⟦<ArmoredReader<BufReader<Bytes<'a>>> as Read>⟧ ⟦<W as Write>⟧ keyring.now ⟦<R as Read>⟧ place count reader.old reader.new writer.old writer.new result }
+    ensures { DecryptsSomeBy ⟦<Holder<S, ArmoredReader<BufReader<Bytes<'a>>>, GivesOnce> as Identity>⟧.unwraps ⟦<S as Suite>⟧
+        ⟦<ArmoredReader<BufReader<Bytes<'a>>> as Read>⟧ ⟦<W as Write>⟧ keyring.now
+        ⟦<R as Read>⟧ place count reader.old reader.new writer.old writer.new result }
 {
     match holders_of::<S>(alloc, keyring) {
         Err(error) => Err(GivenError::Given(error)),
@@ -293,8 +298,10 @@ pub fn seek_part_by<'a, S: Suite, R: Seek + Drop, W: Write>(
     file: R,
     writer: &mut W,
 ) -> Result<(), GivenError<KeyringError, FileError>>
-    ensures { GivesPartBy ⟦<Holder<S, ArmoredReader<BufReader<Bytes<'a>>>, GivesOnce> as Identity>⟧.unwraps ⟦<S as Suite>⟧ ⟦<ArmoredReader<BufReader<Bytes<'a>>> as Read>⟧ ⟦<W as Write>⟧ keyring.now ⟦<R as Read>⟧ ⟦<ArmoredReader<BufReader<R>> as Read>⟧
-        ⟦<StreamReader<S, ArmoredReader<BufReader<R>>> as Read>⟧ ⟦<ArmoredReader<BufReader<R>> as Seek>⟧.seek_refuses place count «file» writer.old writer.new result }
+    ensures { GivesPartBy ⟦<Holder<S, ArmoredReader<BufReader<Bytes<'a>>>, GivesOnce> as Identity>⟧.unwraps ⟦<S as Suite>⟧
+        ⟦<ArmoredReader<BufReader<Bytes<'a>>> as Read>⟧ ⟦<W as Write>⟧ keyring.now ⟦<R as Read>⟧ ⟦<ArmoredReader<BufReader<R>> as Read>⟧
+        ⟦<StreamReader<S, ArmoredReader<BufReader<R>>> as Read>⟧
+        ⟦<ArmoredReader<BufReader<R>> as Seek>⟧.seek_refuses place count «file» writer.old writer.new result }
 {
     match holders_of::<S>(alloc, keyring) {
         Err(error) => Err(GivenError::Given(error)),
@@ -328,7 +335,9 @@ pub fn migrate_by<'a, S: Suite, R: Read + Drop, W: Write>(
     reader: R,
     writer: &mut W,
 ) -> Result<(), GivenError<KeyringError, FileError>>
-    ensures { MigratedBy ⟦<Holder<S, ArmoredReader<BufReader<Bytes<'a>>>, GivesOnce> as Identity>⟧.unwraps ⟦<S as Suite>⟧ ⟦<ArmoredReader<BufReader<Bytes<'a>>> as Read>⟧ ⟦<W as Write>⟧ keyring.now ⟦<R as Read>⟧ ⟦<ArmoredReader<BufReader<R>> as Read>⟧ reader writer.old writer.new result }
+    ensures { MigratedBy ⟦<Holder<S, ArmoredReader<BufReader<Bytes<'a>>>, GivesOnce> as Identity>⟧.unwraps ⟦<S as Suite>⟧
+        ⟦<ArmoredReader<BufReader<Bytes<'a>>> as Read>⟧ ⟦<W as Write>⟧ keyring.now ⟦<R as Read>⟧
+        ⟦<ArmoredReader<BufReader<R>> as Read>⟧ reader writer.old writer.new result }
 {
     match holders_of::<S>(alloc, keyring) {
         Err(error) => Err(GivenError::Given(error)),
@@ -374,8 +383,10 @@ pub fn rekey_by<'a, S: Suite, B: RandomBytes, R: Read + Drop, W: Write>(
     reader: R,
     writer: &mut W,
 ) -> Result<(), GivenError<RekeyError, CommandError>>
-    ensures { RekeysBy ⟦<Holder<S, ArmoredReader<BufReader<Bytes<'a>>>, GivesOnce> as Identity>⟧.unwraps B.gives ⟦<x25519::Recipient<S> as Recipient>⟧.wraps
-        ⟦<S as Suite>⟧ ⟦<ArmoredReader<BufReader<Bytes<'a>>> as Read>⟧ ⟦<W as Write>⟧ keyring.now words.now ⟦<R as Read>⟧ ⟦<ArmoredReader<BufReader<R>> as Read>⟧
+    ensures { RekeysBy ⟦<Holder<S, ArmoredReader<BufReader<Bytes<'a>>>, GivesOnce> as Identity>⟧.unwraps B.gives
+        ⟦<x25519::Recipient<S> as Recipient>⟧.wraps
+        ⟦<S as Suite>⟧ ⟦<ArmoredReader<BufReader<Bytes<'a>>> as Read>⟧ ⟦<W as Write>⟧ keyring.now words.now ⟦<R as Read>⟧
+        ⟦<ArmoredReader<BufReader<R>> as Read>⟧
         ⟦<StreamReader<S, ArmoredReader<BufReader<R>>> as Read>⟧ format source.old source.new reader writer.old writer.new result }
 {
     let keys = match keys_of_words::<S>(alloc, words) {

@@ -35,7 +35,8 @@ fn passed_over(
 }
 
 impl<S: Suite, R: Read + Drop, C: Callbacks> Identity for Holder<S, R, C> {
-    ghost unwraps = { HolderUnwraps ⟦<x25519::Identity<S> as Identity>⟧.unwraps ⟦<encrypted::Identity<S, R, C> as Identity>⟧.unwraps ⟦<scrypt::Identity<S> as Identity>⟧.unwraps };
+    ghost unwraps = { HolderUnwraps ⟦<x25519::Identity<S> as Identity>⟧.unwraps ⟦<encrypted::Identity<S, R, C> as Identity>⟧.unwraps
+        ⟦<scrypt::Identity<S> as Identity>⟧.unwraps };
 
     fn unwrap_stanza(
         &mut self,

@@ -1,6 +1,6 @@
 //! What a file shows without a key.
 ghost use Rattle.std.specs.Prelude.{◌≡◌, ◌+◌, ◌<◌, ◌≤◌};
-ghost use Rattle.sazh_core.specs.Inspecting.{AreLengths, HasLengths, Inspects, InspectsText};
+ghost use Rattle.sazh_core.specs.Inspecting.{AreLengths, Inspects, InspectsText};
 ghost use Rattle.sazh_core.specs.Placing.{inner_of};
 
 use crate::counting::{Counting, Placed};

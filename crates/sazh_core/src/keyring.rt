@@ -4,7 +4,7 @@ ghost use Rattle.std.specs.Str.Lines.{lines};
 ghost use Rattle.std.specs.Option.{option_map};
 ghost use Rattle.age.specs.Entries.{AreEntries};
 ghost use Rattle.age.specs.IdentityFile.{entries_of};
-ghost use Rattle.sazh_core.specs.Keyring.{AreHolders, AreKeys, AreOfFile, AreOfFiles, FoundOrNone, IsFound, IsHeldUnder, IsHeldUnderGiven, KnowsPassphrase, ReadsBytes, RefusesKeyBytes, RefusesEntries, RefusesKeyFile, RefusesFiles, RefusesKeyring, RefusesProtected, RefusesPassphraseFile};
+ghost use Rattle.sazh_core.specs.Keyring.{AreHolders, AreKeys, AreOfFile, AreOfFiles, FoundOrNone, IsFoundProtected, IsHeldUnder, IsHeldUnderGiven, KnowsPassphrase, ReadsBytes, RefusesKeyBytes, RefusesEntries, RefusesKeyFile, RefusesFiles, RefusesKeyring, RefusesProtected, RefusesPassphraseFile};
 ghost use Rattle.sazh_core.specs.declared.error.KeyringError.TheVariants as refused;
 ghost use Rattle.sazh_core.specs.declared.holder.Holder.TheVariants as holder;
 
@@ -130,7 +130,7 @@ fn protected_in<S: Suite, R: Read + Drop>(
     name: &str,
     asked: GivesOnce,
 ) -> Result<Option<encrypted::Identity<S, R, GivesOnce>>, KeyringError>
-    ensures { (bytes : List ℕ) → ReadsBytes ⟦<R as Read>⟧ bytes text → IsFound ⟦<R as Read>⟧ name.now bytes asked result }
+    ensures { (bytes : List ℕ) → ReadsBytes ⟦<R as Read>⟧ bytes text → IsFoundProtected ⟦<R as Read>⟧ name.now bytes asked result }
 {
     match String::from_str(alloc, name) {
         Err(_) => Err(KeyringError::OutOfMemory),
@@ -151,7 +151,7 @@ fn protected<'a, S: Suite>(
     file: &'a KeyFile,
     asked: GivesOnce,
 ) -> Result<Option<encrypted::Identity<S, Text<'a>, GivesOnce>>, KeyringError>
-    ensures { IsFound ⟦<ArmoredReader<BufReader<Bytes<'a>>> as Read>⟧ (string_bytes file.now.name) file.now.bytes.items asked result }
+    ensures { IsFoundProtected ⟦<ArmoredReader<BufReader<Bytes<'a>>> as Read>⟧ (string_bytes file.now.name) file.now.bytes.items asked result }
 {
     match text_of(alloc, &file.bytes) {
         Err(error) => Err(error),
@@ -217,8 +217,10 @@ fn holders_of_protected<'a, S: Suite>(
     passphrase: Option<&[u8]>,
 ) -> Result<Vec<Held<'a, S>>, KeyringError>
     ensures { MatchResult result
-        (λ holders. IsHeldUnderGiven ⟦<ArmoredReader<BufReader<Bytes<'a>>> as Read>⟧ file.now (option_map (λ t. t.now) passphrase.entry) holders.items)
-        (λ e. RefusesProtected ⟦<ArmoredReader<BufReader<Bytes<'a>>> as Read>⟧ S number line file.now.bytes.items (option_map (λ t. t.now) passphrase.entry) e) }
+        (λ holders. IsHeldUnderGiven ⟦<ArmoredReader<BufReader<Bytes<'a>>> as Read>⟧ file.now
+        (option_map (λ t. t.now) passphrase.entry) holders.items)
+        (λ e. RefusesProtected ⟦<ArmoredReader<BufReader<Bytes<'a>>> as Read>⟧ S number line file.now.bytes.items
+        (option_map (λ t. t.now) passphrase.entry) e) }
 {
     match passphrase {
         None => Err(refused_without_passphrase::<S>(alloc, file, number, line)),

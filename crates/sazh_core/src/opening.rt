@@ -6,7 +6,7 @@ ghost use Rattle.age.specs.Header.{covered_text};
 ghost use Rattle.age.specs.HeaderMac.{header_mac};
 ghost use Rattle.age.specs.Texts.{RefusesKey};
 ghost use Rattle.age.specs.Unwrapping.{key_answer};
-ghost use Rattle.sazh_core.specs.Opening.{AnswersAt, Asks, OpensHeader};
+ghost use Rattle.sazh_core.specs.Opening.{AnswersByNumber, AnswersHeader, FindsOpener};
 
 use age::format::HeaderV1;
 use age::secrecy::FileKey;
@@ -26,8 +26,8 @@ fn first_answer<I: Identity>(
     identities: &mut [I],
     header: &HeaderV1,
 ) -> Option<Answered>
-    ensures { MatchOption result (AllZip (λ identity then. Asks I.unwraps header.now identity None then) identities.old identities.new)
-        (λ it. AnswersAt I.unwraps header.now identities.old identities.new it.number (key_answer it.answer)) }
+    ensures { MatchOption result (AllZip (λ identity then. AnswersHeader I.unwraps header.now identity None then) identities.old identities.new)
+        (λ it. AnswersByNumber I.unwraps header.now identities.old identities.new it.number (key_answer it.answer)) }
 {
     let mut number = 0;
     for identity in identities.iter_mut() {
@@ -74,7 +74,7 @@ pub fn opens_header<I: Identity>(
     identities: &mut [I],
     header: &HeaderV1,
 ) -> Result<usize, DecryptError>
-    ensures { OpensHeader I.unwraps header.now identities.old identities.new result }
+    ensures { FindsOpener I.unwraps header.now identities.old identities.new result }
 {
     match first_answer(alloc, identities, header) {
         None => Err(DecryptError::NoMatchingKeys),

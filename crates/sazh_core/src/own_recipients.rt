@@ -1,12 +1,12 @@
 //! The recipients of the identities in a file.
-ghost use Rattle.std.specs.Prelude.{◌≡◌, ◌≢◌, ◌⊎◌, ◌++◌, ℕ, List, [], MatchResult, IfOk};
+ghost use Rattle.std.specs.Prelude.{◌≡◌, ◌≢◌, ◌++◌, ℕ, List, [], MatchResult, IfOk};
 ghost use Rattle.age.specs.Bech32Written.{bech32_text};
 ghost use Rattle.age.specs.IdentityFile.{entries_of};
 ghost use Rattle.age.specs.X25519.{recipient_prefix};
 ghost use Rattle.age.specs.Lines.{line};
 ghost use Rattle.sazh_core.specs.Given.{Answers, WithGiven};
 ghost use Rattle.sazh_core.specs.Keyring.{ReadsBytes};
-ghost use Rattle.sazh_core.specs.OwnRecipients.{AreOfIdentities, ArePublicOf, RefusesEntries, RefusesIdentities, RefusesLine, WritesText, recipients_text};
+ghost use Rattle.sazh_core.specs.OwnRecipients.{AreOfIdentities, ArePublicOf, RefusesEntries, RefusesOwnIdentities, RefusesIdentityLine, WritesText, recipients_text};
 ghost use Rattle.sazh_core.specs.declared.error.IdentitiesError.TheVariants as error;
 
 use crate::error::{GivenError, IdentitiesError};
@@ -20,7 +20,8 @@ use std::alloc::{AllocError, Global};
 
 // Recipients, of which there are some.
 fn some_of<S>(recipients: Vec<Recipient<S>>) -> Result<Vec<Recipient<S>>, IdentitiesError>
-    ensures { MatchResult result (λ some. (recipients.items ≢ []) × (some.items ≡ recipients.items)) (λ e. (e ≡ error.NoIdentity) × (recipients.items ≡ [])) }
+    ensures { MatchResult result (λ some. (recipients.items ≢ []) × (some.items ≡ recipients.items))
+        (λ e. (e ≡ error.NoIdentity) × (recipients.items ≡ [])) }
 {
     if recipients.is_empty() {
         return Err(IdentitiesError::NoIdentity);
@@ -33,7 +34,8 @@ fn recipients_in_entries<S: Suite>(
     alloc: Global,
     found: IdentityFile<S, NoCallbacks>,
 ) -> Result<Vec<Recipient<S>>, IdentitiesError>
-    ensures { MatchResult result (λ recipients. ArePublicOf S.public_of (entries_of found) recipients.items) (λ e. RefusesEntries (entries_of found) e) }
+    ensures { MatchResult result (λ recipients. ArePublicOf S.public_of (entries_of found) recipients.items)
+        (λ e. RefusesEntries (entries_of found) e) }
 {
     match found.to_recipients(alloc) {
         Ok(recipients) => some_of(recipients),
@@ -44,7 +46,7 @@ fn recipients_in_entries<S: Suite>(
 
 // Why what this one reads, of which this line is no identity, has no recipients that can be told.
 fn refused_text<S: Suite, R: Read + Drop>(alloc: Global, text: R, line: usize) -> IdentitiesError
-    ensures { (bytes : List ℕ) → ReadsBytes ⟦<R as Read>⟧ bytes text → RefusesLine ⟦<R as Read>⟧ S line bytes result }
+    ensures { (bytes : List ℕ) → ReadsBytes ⟦<R as Read>⟧ bytes text → RefusesIdentityLine ⟦<R as Read>⟧ S line bytes result }
 {
     match Decryptor::<S, R>::new(alloc, text) {
         Ok(front) => {
@@ -61,7 +63,7 @@ fn refused_text<S: Suite, R: Read + Drop>(alloc: Global, text: R, line: usize) -
 
 // The same of bytes.
 fn refused_bytes<'a, S: Suite>(alloc: Global, bytes: &'a [u8], line: usize) -> IdentitiesError
-    ensures { RefusesLine ⟦<ArmoredReader<BufReader<Bytes<'a>>> as Read>⟧ S line bytes.now result }
+    ensures { RefusesIdentityLine ⟦<ArmoredReader<BufReader<Bytes<'a>>> as Read>⟧ S line bytes.now result }
 {
     match text_of(alloc, bytes) {
         Err(_) => IdentitiesError::OutOfMemory,
@@ -87,7 +89,7 @@ pub fn recipients_of_identities<'a, S: Suite>(
     bytes: &'a [u8],
 ) -> Result<Vec<Recipient<S>>, IdentitiesError>
     ensures { MatchResult result (λ recipients. AreOfIdentities S.public_of bytes.now recipients.items)
-        (λ e. RefusesIdentities ⟦<ArmoredReader<BufReader<Bytes<'a>>> as Read>⟧ S bytes.now e) }
+        (λ e. RefusesOwnIdentities ⟦<ArmoredReader<BufReader<Bytes<'a>>> as Read>⟧ S bytes.now e) }
 {
     match identities_in::<S>(alloc, bytes) {
         Ok(found) => recipients_in_entries(alloc, found),
@@ -164,7 +166,7 @@ pub fn write_recipients_of<'a, S: Suite, W: Write>(
     bytes: &'a [u8],
     writer: &mut W,
 ) -> Result<(), GivenError<IdentitiesError, Error>>
-    ensures { WithGiven (λ e. RefusesIdentities ⟦<ArmoredReader<BufReader<Bytes<'a>>> as Read>⟧ S bytes.now e) (writer.new ≡ writer.old)
+    ensures { WithGiven (λ e. RefusesOwnIdentities ⟦<ArmoredReader<BufReader<Bytes<'a>>> as Read>⟧ S bytes.now e) (writer.new ≡ writer.old)
         (λ (keys : List (List ℕ)). AreOfIdentities S.public_of bytes.now keys)
         (λ keys done. WritesText ⟦<W as Write>⟧ (recipients_text keys) writer.old writer.new done)
         (λ _ done told. Answers done told) result }

@@ -2,7 +2,7 @@
 ghost use Rattle.std.specs.Prelude.{◌≡◌, ◌++◌, ℕ, List, [], ◌∷◌, MatchOption, MatchResult, IfOk, IfErr, map, true, false};
 ghost use Rattle.std.specs.Str.{IsUtf8};
 ghost use Rattle.std.specs.Str.Lines.{lines};
-ghost use Rattle.sazh_core.specs.Recipients.{AreRecipients, IsBadRecipientLine, IsPassedOver, RefusesRecipientBytes, RefusesLines, RefusesRecipients};
+ghost use Rattle.sazh_core.specs.Recipients.{AreRecipients, IsBadRecipientLine, IsEmptyOrComment, RefusesRecipientBytes, RefusesLines, RefusesRecipientText};
 
 use crate::error::RecipientsError;
 use age::x25519::Recipient;
@@ -11,8 +11,8 @@ use std::str::FromStr;
 
 // Whether a line is passed over.
 fn is_passed_over(line: &str) -> bool
-    ensures yes { result ≡ true → IsPassedOver line.now }
-    ensures no { result ≡ false → IsPassedOver line.now → ⊥ }
+    ensures yes { result ≡ true → IsEmptyOrComment line.now }
+    ensures no { result ≡ false → IsEmptyOrComment line.now → ⊥ }
 {
     match line.as_bytes().split_first() {
         None => true,
@@ -66,7 +66,7 @@ fn all_lines(alloc: Global, text: &str) -> Result<Vec<&str>, AllocError>
 
 // The recipients of a text, of which there is one or more.
 fn recipients_of_text<S>(alloc: Global, text: &str) -> Result<Vec<Recipient<S>>, RecipientsError>
-    ensures { MatchResult result (λ recipients. AreRecipients (lines text.now) recipients.items) (λ e. RefusesRecipients e text.now) }
+    ensures { MatchResult result (λ recipients. AreRecipients (lines text.now) recipients.items) (λ e. RefusesRecipientText e text.now) }
 {
     let Ok(all) = all_lines(alloc, text) else {
         return Err(RecipientsError::OutOfMemory);

@@ -33,10 +33,13 @@ pub fn rekey<S: Suite, I: Identity, B: RandomBytes, R: Read + Drop, W: Write>(
     reader: R,
     writer: &mut W,
 ) -> Result<(), CommandError>
-    ensures steps { Rekeys I.unwraps B.gives ⟦<x25519::Recipient<S> as Recipient>⟧.wraps ⟦<S as Suite>⟧ ⟦<W as Write>⟧ format identities.old identities.new
-        recipients.now source.old source.new ⟦<R as Read>⟧ ⟦<ArmoredReader<BufReader<R>> as Read>⟧ ⟦<StreamReader<S, ArmoredReader<BufReader<R>>> as Read>⟧
+    ensures steps { Rekeys I.unwraps B.gives ⟦<x25519::Recipient<S> as Recipient>⟧.wraps ⟦<S as Suite>⟧
+        ⟦<W as Write>⟧ format identities.old identities.new
+        recipients.now source.old source.new ⟦<R as Read>⟧ ⟦<ArmoredReader<BufReader<R>> as Read>⟧
+        ⟦<StreamReader<S, ArmoredReader<BufReader<R>>> as Read>⟧
         reader writer.old writer.new result }
-    ensures plaintext { KeepsPlaintext I.unwraps B.gives ⟦<x25519::Recipient<S> as Recipient>⟧.wraps ⟦<S as Suite>⟧ ⟦<W as Write>⟧ format identities.old
+    ensures plaintext { KeepsPlaintext I.unwraps B.gives ⟦<x25519::Recipient<S> as Recipient>⟧.wraps ⟦<S as Suite>⟧
+        ⟦<W as Write>⟧ format identities.old
         identities.new recipients.now source.old source.new ⟦<R as Read>⟧ reader writer.old writer.new result }
 {
     let text = match ArmoredReader::new(alloc, reader) {

@@ -66,7 +66,8 @@ fn before_hyphen(bytes: &[u8]) -> Option<&[u8]>
 
 /// What stands between the front of a prefix and a hyphen at its end, if the prefix is of that form.
 pub(crate) fn between<'a>(prefix: &'a [u8], front: &[u8]) -> Option<&'a [u8]>
-    ensures { MatchOption result ((before : List ℕ) → prefix.now ≢ front.now ++ before ++ 45 ∷ []) (λ before. prefix.now ≡ front.now ++ before.now ++ 45 ∷ []) }
+    ensures { MatchOption result ((before : List ℕ) → prefix.now ≢ front.now ++ before ++ 45 ∷ [])
+        (λ before. prefix.now ≡ front.now ++ before.now ++ 45 ∷ []) }
 {
     let rest = after_front(prefix, front)?;
     before_hyphen(rest)

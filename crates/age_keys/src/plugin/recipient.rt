@@ -1,5 +1,5 @@
 //! Recipients of plugins.
-ghost use Rattle.std.specs.Prelude.{◌≡◌, IfOk, MatchResult, codes};
+ghost use Rattle.std.specs.Prelude.{◌≡◌, IfOk, MatchResult};
 ghost use Rattle.age_keys.specs.PluginKeys.{IsPluginRecipient, RefusesRecipient};
 
 use crate::plugin::names::{after_front, name_in, prefix_of};

@@ -104,7 +104,8 @@ impl<S: Suite> Identity<S> {
 
     // What it answers to a stanza with the tag of this type.
     fn unwrap_own(&self, alloc: Global, stanza: &Stanza) -> Result<FileKey, DecryptError>
-        ensures { UnwrapsOwn HasStretching (λ with_ body. Some (key_under S.opened S.stretch_of S.accepts self.now with_ body)) stanza.now (Some (key_answer result)) }
+        ensures { UnwrapsOwn HasStretching (λ with_ body. Some (key_under S.opened S.stretch_of S.accepts self.now with_ body)) stanza.now
+            (Some (key_answer result)) }
     {
         match stretching_of(alloc, stanza)? {
             Some(with_) => self.open_under(alloc, with_.salt(), with_.factor(), stanza.body()),

@@ -11,7 +11,8 @@ use age_suite::suite::Suite;
 /// wrapped, or want of memory, whatever was drawn. (In a header the recipient's stanza stands alone.)
 pub fn scrypt_pair<S: Suite>(recipient: &Recipient<S>, identity: &Identity<S>)
     ensures { IsMeantFor recipient.now identity.now →
-        BelongsTo ⟦<Recipient<S> as age_format::Recipient>⟧.wraps ⟦<Identity<S> as age_format::Identity>⟧.unwraps has_other_tag recipient.now identity.now }
+        BelongsTo ⟦<Recipient<S> as age_format::Recipient>⟧.wraps
+        ⟦<Identity<S> as age_format::Identity>⟧.unwraps has_other_tag recipient.now identity.now }
 {
     recipient.known();
 }

@@ -56,6 +56,7 @@ impl<S> Recipient<S> {
         requires most { log_n ≤ 63 }
         ensures { result ≡ record { passphrase = passphrase; factor = log_n } }
     {
+        // For the proof alone: these are bytes, each below 256.
         known_bytes(passphrase.expose_secret().as_bytes());
         Recipient {
             passphrase,
@@ -77,6 +78,7 @@ impl<S> Recipient<S> {
     pub(crate) fn known(&self)
         ensures { AreBytes self.now.passphrase × (1 ≤ self.now.factor) × (self.now.factor ≤ 63) }
     {
+        // A look at a field opens `self`, whose invariant the proof has then.
         let _ = &self.factor;
     }
 }
@@ -92,6 +94,7 @@ fn stanza_of<S: Suite>(
     ensures { IsOrNoMemory (Ok (scrypt_stanza salt.now factor (S.seal_of wrap_key.now no_nonce file_key.now)))
         (result_map_both (λ s. s) (λ e. encrypt_refusal e) result) }
 {
+    // For the proof alone: these are bytes, each below 256.
     known_array(salt);
     let mut args = Vec::new(alloc);
     args.push(encode_columns(alloc, salt)?)?;
@@ -125,6 +128,7 @@ impl<S: Suite> age_format::Recipient for Recipient<S> {
         let Some(label) = draw.take::<24>() else {
             return Err(EncryptError::ShortRandom);
         };
+        // For the proof alone: these are bytes, each below 256.
         known_array(&salt);
         known_array(&label);
         known_array(file_key.expose_secret());

@@ -105,7 +105,8 @@ pub(crate) fn stretching_of(
     alloc: Global,
     stanza: &Stanza,
 ) -> Result<Option<Stretching>, AllocError>
-    ensures { IfOk result (λ found. MatchOption found ((with_ : SaltAndFactor) → HasStretching with_ stanza.now → ⊥) (λ with_. HasStretching with_ stanza.now)) }
+    ensures { IfOk result (λ found. MatchOption found ((with_ : SaltAndFactor) → HasStretching with_ stanza.now → ⊥)
+        (λ with_. HasStretching with_ stanza.now)) }
 {
     let Some((salt, factor)) = two_arguments(stanza) else {
         return Ok(None);

@@ -61,6 +61,7 @@ impl<S> Identity<S> {
     fn of(secret: [u8; 32]) -> Identity<S>
         ensures { result ≡ secret }
     {
+        // For the proof alone: these are bytes, each below 256.
         known_array(&secret);
         Identity {
             secret,
@@ -72,6 +73,7 @@ impl<S> Identity<S> {
     pub(crate) fn known(&self)
         ensures { AreBytesOf 32 self.now }
     {
+        // For the proof alone: these are bytes, each below 256.
         known_array(&self.secret);
     }
 

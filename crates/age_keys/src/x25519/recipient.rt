@@ -41,6 +41,7 @@ impl<S> Recipient<S> {
     pub(crate) fn of(public: [u8; 32]) -> Recipient<S>
         ensures { result ≡ public }
     {
+        // For the proof alone: these are bytes, each below 256.
         known_array(&public);
         Recipient {
             public,
@@ -52,6 +53,7 @@ impl<S> Recipient<S> {
     pub(crate) fn known(&self)
         ensures { AreBytesOf 32 self.now }
     {
+        // For the proof alone: these are bytes, each below 256.
         known_array(&self.public);
     }
 }
@@ -70,6 +72,7 @@ impl<S: Suite> age_format::Recipient for Recipient<S> {
         let Some(ephemeral) = draw.take::<32>() else {
             return Err(EncryptError::ShortRandom);
         };
+        // For the proof alone: these are bytes, each below 256.
         known_array(&ephemeral);
         known_array(file_key.expose_secret());
         let shared = S::x25519(&ephemeral, &self.public);

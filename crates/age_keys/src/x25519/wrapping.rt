@@ -2,8 +2,6 @@
 ghost use Rattle.std.specs.Prelude.{◌≡◌, ℕ, List, [], ◌∷◌, Ok, IfOk, MatchOption};
 ghost use Rattle.std.specs.Result.{result_map_both};
 ghost use Rattle.age_error.specs.EncryptErrors.{encrypt_refusal};
-ghost use Rattle.age_error.specs.Bytes.{AreBytesOf};
-ghost use Rattle.age_base64.specs.Base64.{columns};
 ghost use Rattle.age_v1.specs.Encrypting.{IsOrNoMemory};
 ghost use Rattle.age_v1.specs.RecipientType.{no_nonce};
 ghost use Rattle.age_v1.specs.X25519.{wrap_key, x25519_stanza, HasShare};
@@ -45,6 +43,7 @@ pub(crate) fn stanza_of<S: Suite>(
     ensures { IsOrNoMemory (Ok (x25519_stanza share.now (S.seal_of wrap_key.now no_nonce file_key.now)))
         (result_map_both (λ s. s) (λ e. encrypt_refusal e) result) }
 {
+    // For the proof alone: these are bytes, each below 256.
     known_array(share);
     let mut args = Vec::new(alloc);
     args.push(encode_columns(alloc, share)?)?;

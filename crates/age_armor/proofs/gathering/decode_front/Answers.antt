@@ -10,7 +10,8 @@ returns-then-decode_full-clause-ahead c =
     let gathered = c.gather-count.ensures in
     let room : 48 * n ≤ length old = omega (arith, c.requires, gathered.room, c.gather-count.auto.columns) in
     let size : length c.decode_full.new.bytes ≡ 48 * n = omega (arith, c.decode_full.auto.bytes, length-take-le (48 * n) old room) in
-    ahead_decoded c.args.front.now c.gather-count.new.columns c.decode_full.new.bytes (drop (48 * n) old) n gathered.shown gathered.lines size (c.decode_full.ensures c.if-decode_full.true)
+    ahead_decoded c.args.front.now c.gather-count.new.columns c.decode_full.new.bytes (drop (48 * n) old) n gathered.shown gathered.lines size
+    (c.decode_full.ensures c.if-decode_full.true)
 
 pub returns-else-decode_full-clause-ahead : goal.returns-else-decode_full-clause-ahead
 returns-else-decode_full-clause-ahead c = ahead_none _ c.args.front.now 0

@@ -27,7 +27,8 @@ lines-preserved c =
     record {
       most = below;
       shown = h;
-      lines = gathered front c.lines.columns _ n _ (ap (λ z. put_mid (64 * n) (64 * n + 64 - 64 * n) c.lines.columns z) copied) (omega (arith, c.lines-test.true, c.lines.auto.columns)) h is.1 c.lines.invariant.lines;
+      lines = gathered front c.lines.columns _ n _ (ap (λ z. put_mid (64 * n) (64 * n + 64 - 64 * n) c.lines.columns z) copied)
+          (omega (arith, c.lines-test.true, c.lines.auto.columns)) h is.1 c.lines.invariant.lines;
     }
 
 pub returns-else-is_line-clause-shown : goal.returns-else-is_line-clause-shown

@@ -7,7 +7,8 @@ abbrev pub invariant-lines : goal.invariant-lines
 invariant-lines l = record {
   most : l.count ≤ l.most;
   shown : 65 * l.count ≤ length l.front;
-  lines : (bytes : List ℕ) → length bytes ≡ 48 * l.count → take (64 * l.count) l.columns ≡ padded_columns bytes → take (65 * l.count) l.front ≡ full_lines l.count bytes;
+  lines : (bytes : List ℕ) → length bytes ≡ 48 * l.count → take (64 * l.count) l.columns ≡ padded_columns bytes
+      → take (65 * l.count) l.front ≡ full_lines l.count bytes;
 }
 
 abbrev pub decreases-lines : goal.decreases-lines

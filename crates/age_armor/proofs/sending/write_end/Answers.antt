@@ -18,7 +18,9 @@ pub returns-clause-sent : goal.returns-clause-sent
 returns-clause-sent g c = λ told.
     let some : 0 < length c.args.held.now = grind arith in
     rw (last_line c.args.held.now some c.requires)
-    (on_ok_weaker c.write_end_marker-2.result (g.met.W.Write.joins c.args.inner.now c.write_last_line.new.inner c.write_end_marker-2.new.inner (line (padded_columns c.args.held.now)) (line end_marker)
+    (on_ok_weaker c.write_end_marker-2.result
+    (g.met.W.Write.joins c.args.inner.now c.write_last_line.new.inner c.write_end_marker-2.new.inner (line (padded_columns c.args.held.now))
+    (line end_marker)
     (c.in_ok-write_last_line.ensures.sent told)) (c.write_end_marker-2.ensures.sent (c.in_ok-write_last_line.ensures.keeps.same_tells ∙ told)))
 
 pub returns-clause-keeps : goal.returns-clause-keeps

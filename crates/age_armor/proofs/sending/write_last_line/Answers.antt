@@ -15,15 +15,18 @@ returns-clause-sent g c = λ told.
     let bytes = c.args.bytes.now in
     let n = c.encode-columns.result in
     let text : take (n + 1) (slice_set c.encode-columns.new.columns n 10) ≡ line (padded_columns bytes) =
-    ended_line (padded_columns bytes) _ c.encode-columns.new.columns n c.encode-columns.ensures.written (length-padded_columns bytes ∙ sym c.encode-columns.ensures.count) (omega (arith, c.encode-columns.ensures.count)) in
-    on_ok_weaker c.write_all.result (subst (λ z. g.W.Write.appended c.args.inner.now z c.write_all.new.writer) text) (c.write_all.ensures.writes.takes_all told)
+    ended_line (padded_columns bytes) _ c.encode-columns.new.columns n c.encode-columns.ensures.written
+    (length-padded_columns bytes ∙ sym c.encode-columns.ensures.count) (omega (arith, c.encode-columns.ensures.count)) in
+    on_ok_weaker c.write_all.result (subst (λ z. g.W.Write.appended c.args.inner.now z c.write_all.new.writer) text)
+    (c.write_all.ensures.writes.takes_all told)
 
 pub returns-clause-front : goal.returns-clause-front
 returns-clause-front g c = λ told. let w = g.W.Write in
     let bytes = c.args.bytes.now in
     let n = c.encode-columns.result in
     let text : take (n + 1) (slice_set c.encode-columns.new.columns n 10) ≡ line (padded_columns bytes) =
-    ended_line (padded_columns bytes) _ c.encode-columns.new.columns n c.encode-columns.ensures.written (length-padded_columns bytes ∙ sym c.encode-columns.ensures.count) (omega (arith, c.encode-columns.ensures.count)) in
+    ended_line (padded_columns bytes) _ c.encode-columns.new.columns n c.encode-columns.ensures.written
+    (length-padded_columns bytes ∙ sym c.encode-columns.ensures.count) (omega (arith, c.encode-columns.ensures.count)) in
     subst (λ z. AppendsFront w.appended z c.args.inner.now c.write_all.new.writer) text
     (front-all_written w.appended w.tells w.faults (Retried w.refuses) _ _ _ c.write_all.result told c.write_all.ensures.writes)
 

@@ -9,8 +9,10 @@ returns-in_ok-extend_from_slice-in-Some-clause-run g c = λ told.
     let rest = g.B.Read.rest in
     appended_line c.in-Some.at c.in_ok-front.front.now (g.B.BufRead.shown c.fill_buf.follows.lender-at-none)
     c.args.line.now.items c.extend_from_slice.new.self.items
-    (rest c.args.reader.now) (rest c.fill_buf.follows.lender-at-none) (rest c.consume.new.self) c.in-Some.ensures (rw c.in_ok-front.was at filled.shows)
-    (rw c.in_ok-front.was at filled.same_rest told) c.in_ok-extend_from_slice-in-Some.ensures.items (c.consume.ensures.bytes (filled.same_tells ∙ told))
+    (rest c.args.reader.now) (rest c.fill_buf.follows.lender-at-none) (rest c.consume.new.self) c.in-Some.ensures
+    (rw c.in_ok-front.was at filled.shows)
+    (rw c.in_ok-front.was at filled.same_rest told) c.in_ok-extend_from_slice-in-Some.ensures.items
+    (c.consume.ensures.bytes (filled.same_tells ∙ told))
 
 pub returns-in_ok-extend_from_slice-in-None-clause-run : goal.returns-in_ok-extend_from_slice-in-None-clause-run
 returns-in_ok-extend_from_slice-in-None-clause-run g c = λ told.
@@ -18,8 +20,10 @@ returns-in_ok-extend_from_slice-in-None-clause-run g c = λ told.
     let rest = g.B.Read.rest in
     appended_all c.in_ok-front.front.now (g.B.BufRead.shown c.fill_buf.follows.lender-at-none)
     c.args.line.now.items c.extend_from_slice-in-None.new.self.items
-    (rest c.args.reader.now) (rest c.fill_buf.follows.lender-at-none) (rest c.consume-in-None.new.self) c.in-None.ensures (rw c.in_ok-front.was at filled.shows)
-    (rw c.in_ok-front.was at filled.same_rest told) c.in_ok-extend_from_slice-in-None.ensures.items (c.consume-in-None.ensures.bytes (filled.same_tells ∙ told))
+    (rest c.args.reader.now) (rest c.fill_buf.follows.lender-at-none) (rest c.consume-in-None.new.self) c.in-None.ensures
+    (rw c.in_ok-front.was at filled.shows)
+    (rw c.in_ok-front.was at filled.same_rest told) c.in_ok-extend_from_slice-in-None.ensures.items
+    (c.consume-in-None.ensures.bytes (filled.same_tells ∙ told))
 
 pub returns-in_ok-extend_from_slice-in-Some-clause-moves : goal.returns-in_ok-extend_from_slice-in-Some-clause-moves
 returns-in_ok-extend_from_slice-in-Some-clause-moves g c = λ told.

@@ -9,5 +9,6 @@ returns-in-loop-of-retried-clause-asks g c =
 pub loop-of-retried-preserved : goal.loop-of-retried-preserved
 loop-of-retried-preserved g c = record {
   size = c.show_once.ensures.size;
-  interrupted = asks_again _ c.show_once.result _ _ _ c.loop-of-retried._try c.loop-of-retried.invariant.interrupted c.show_once.ensures.asks (search rules);
+  interrupted = asks_again _ c.show_once.result _ _ _ c.loop-of-retried._try c.loop-of-retried.invariant.interrupted c.show_once.ensures.asks
+      (search rules);
 }

@@ -24,5 +24,6 @@ returns-in-loop-of-retried g c =
 pub loop-of-retried-preserved : goal.loop-of-retried-preserved
 loop-of-retried-preserved g c = record {
   same_line = search rules;
-  interrupted = asks_again _ c.run_once.result _ _ _ c.loop-of-retried._try c.loop-of-retried.invariant.interrupted c.run_once.ensures.asks (search rules);
+  interrupted = asks_again _ c.run_once.result _ _ _ c.loop-of-retried._try c.loop-of-retried.invariant.interrupted c.run_once.ensures.asks
+      (search rules);
 }

@@ -12,7 +12,8 @@ returns-in-Err g c =
       kept = kept-error _ _ _ _ _ c.in-Err.e now.kept;
       counts = (now.counts.counts, omega (arith, now.counts.none_taken));
       piece = piece-none _ _ _;
-      gives = gives-asked _ _ _ _ _ (λ told other quiet. cut_line c.args.after_short (g.R.Read.rest c.args.source.now.inner) c.in-Err.e (now.cause told other quiet)) now.why;
+      gives = gives-asked _ _ _ _ _ (λ told other quiet. cut_line c.args.after_short (g.R.Read.rest c.args.source.now.inner) c.in-Err.e
+          (now.cause told other quiet)) now.why;
       lines = tt;
       line = tt;
     }
@@ -20,13 +21,15 @@ returns-in-Err g c =
 pub returns-then-is_empty : goal.returns-then-is_empty
 returns-then-is_empty g c =
     let line = c.in-Ok.ensures in
-    let none : length c.take_line.new.line.items ≡ 0 = omega (arith, eqb-true c.take_line.new.line.len 0 (sym c.is_empty.ensures ∙ c.if-is_empty.true)) in
+    let none : length c.take_line.new.line.items ≡ 0 =
+    omega (arith, eqb-true c.take_line.new.line.len 0 (sym c.is_empty.ensures ∙ c.if-is_empty.true)) in
     record {
       kept = kept-refused _ _ _ _ _ _ line.kept (λ is. is) tt;
       counts = counts_once _ _ _ _ line.counts.counts line.counts.lines line.counts.no_line refl;
       piece = piece-none _ _ _;
       gives = gives-end _ _ _ _ _ (λ told.
-          empty_line c.args.after_short c.take_line.new.line.items (g.R.Read.rest c.args.source.now.inner) (g.R.Read.rest c.take_line.new.self.inner) (line.line told) none);
+          empty_line c.args.after_short c.take_line.new.line.items (g.R.Read.rest c.args.source.now.inner)
+          (g.R.Read.rest c.take_line.new.self.inner) (line.line told) none);
       lines = tt;
       line = tt;
     }
@@ -34,13 +37,15 @@ returns-then-is_empty g c =
 pub returns-in-Refuses : goal.returns-in-Refuses
 returns-in-Refuses g c =
     let line = c.in-Ok.ensures in
-    let some : 0 < length c.take_line.new.line.items = omega (arith, eqb-false c.take_line.new.line.len 0 (sym c.is_empty.ensures ∙ c.if-is_empty.false)) in
+    let some : 0 < length c.take_line.new.line.items =
+    omega (arith, eqb-false c.take_line.new.line.len 0 (sym c.is_empty.ensures ∙ c.if-is_empty.false)) in
     record {
       kept = kept-refused _ _ _ _ _ _ line.kept (λ is. is) tt;
       counts = counts_once _ _ _ _ line.counts.counts line.counts.lines line.counts.no_line refl;
       piece = piece-none _ _ _;
       gives = gives-end _ _ _ _ _ (λ told.
-          line_refuses c.args.after_short c.take_line.new.line.items (g.R.Read.rest c.args.source.now.inner) (g.R.Read.rest c.take_line.new.self.inner) _
+          line_refuses c.args.after_short c.take_line.new.line.items (g.R.Read.rest c.args.source.now.inner)
+          (g.R.Read.rest c.take_line.new.self.inner) _
           (line.line told) some (rw c.deref.ensures.value at (rw c.in-Refuses.is at c.judge.ensures)));
       lines = tt;
       line = tt;
@@ -50,7 +55,8 @@ pub returns-in-Ok-take_trailing : goal.returns-in-Ok-take_trailing
 returns-in-Ok-take_trailing g c =
     let line = c.in-Ok.ensures in
     let last = c.in-Ok-take_trailing.ensures in
-    let some : 0 < length c.take_line.new.line.items = omega (arith, eqb-false c.take_line.new.line.len 0 (sym c.is_empty.ensures ∙ c.if-is_empty.false)) in
+    let some : 0 < length c.take_line.new.line.items =
+    omega (arith, eqb-false c.take_line.new.line.len 0 (sym c.is_empty.ensures ∙ c.if-is_empty.false)) in
     let ends = λ (told : IsTrue (g.R.Read.tells c.args.source.now.inner)).
     line_ends c.args.after_short c.take_line.new.line.items (g.R.Read.rest c.args.source.now.inner) (g.R.Read.rest c.take_line.new.self.inner)
     (line.line told) some (rw c.deref.ensures.value at (rw c.in-Ends.is at c.judge.ensures)) (last.clean (line.kept.keeps.same.tells ∙ told)) in
@@ -72,18 +78,21 @@ pub returns-in-Err-take_trailing : goal.returns-in-Err-take_trailing
 returns-in-Err-take_trailing g c =
     let line = c.in-Ok.ensures in
     let last = c.in-Err-take_trailing.ensures in
-    let some : 0 < length c.take_line.new.line.items = omega (arith, eqb-false c.take_line.new.line.len 0 (sym c.is_empty.ensures ∙ c.if-is_empty.false)) in
+    let some : 0 < length c.take_line.new.line.items =
+    omega (arith, eqb-false c.take_line.new.line.len 0 (sym c.is_empty.ensures ∙ c.if-is_empty.false)) in
     let trails = λ (told : IsTrue (g.R.Read.tells c.args.source.now.inner)).
     line_trails c.args.after_short c.take_line.new.line.items (g.R.Read.rest c.args.source.now.inner) (g.R.Read.rest c.take_line.new.self.inner)
     (line.line told) some (rw c.deref.ensures.value at (rw c.in-Ends.is at c.judge.ensures)) in
     record {
-      kept = kept-error _ _ _ _ _ c.in-Err-take_trailing.e (kept-later _ _ c.args.source.now.inner c.take_line.new.self.inner _ _ _ _ line.kept last.kept);
+      kept = kept-error _ _ _ _ _ c.in-Err-take_trailing.e
+          (kept-later _ _ c.args.source.now.inner c.take_line.new.self.inner _ _ _ _ line.kept last.kept);
       counts = counts_once _ _ _ _ line.counts.counts line.counts.lines line.counts.no_line last.lines;
       piece = piece-none _ _ _;
       gives = gives-none _ _ _ _ _
           (λ told other quiet. stops_of _ c.in-Err-take_trailing.e _ (trails told)
           (last.cause (line.kept.keeps.same.tells ∙ told) other (quiet_after _ _ _ line.kept.keeps.same.faults last.kept.keeps.same.faults quiet)))
-          (λ told. end-later g.R.Read c.args.source.now.inner c.take_line.new.self.inner _ _ c.in-Err-take_trailing.e line.kept.keeps.narrows (trails told)
+          (λ told. end-later g.R.Read c.args.source.now.inner c.take_line.new.self.inner _ _ c.in-Err-take_trailing.e line.kept.keeps.narrows
+          (trails told)
           (last.why (line.kept.keeps.same.tells ∙ told)));
       lines = tt;
       line = tt;
@@ -110,7 +119,8 @@ returns-in-Holds g c =
       };
       gives = record {
         taken = λ told. omega (arith, line.taken told, fits.1);
-        bytes = λ told. line_holds c.args.after_short c.in-Holds.short raw _ (g.R.Read.rest c.args.source.now.inner) (g.R.Read.rest c.take_line.new.self.inner)
+        bytes = λ told. line_holds c.args.after_short c.in-Holds.short raw _ (g.R.Read.rest c.args.source.now.inner)
+            (g.R.Read.rest c.take_line.new.self.inner)
             (line.line told) some h.0 h.1;
         cause = λ told. tt;
         why = λ told. tt;

@@ -29,7 +29,8 @@ returns-in-Err g c =
       counts = got.lines;
       fits = tt;
       gives = gives-asked _ _ _ _ _ (λ told other quiet.
-          few_fault (length c.take_front.new.front) (g.R.Read.rest c.args.source.now.inner) c.in-Err.e (omega arith) (got.cause told other quiet)) got.why;
+          few_fault (length c.take_front.new.front) (g.R.Read.rest c.args.source.now.inner) c.in-Err.e (omega arith) (got.cause told other quiet))
+          got.why;
       found = tt;
       form = λ told. tt;
     }
@@ -42,12 +43,14 @@ returns-in-Ok-true-is_at_end g c =
     let bytes = λ (told : IsTrue (g.R.Read.tells start)). got.bytes told c.in-Ok-true.field-0-test in
     let end = λ (told : IsTrue (g.R.Read.tells start)). now.end (got.kept.keeps.same.tells ∙ told) c.in-Ok-true-is_at_end.field-0-test in
     record {
-      kept = kept-refused _ _ _ _ _ _ (kept-later _ _ start c.take_front.new.self.inner _ _ c.take_front.new.self.taken _ got.kept now.kept) (λ is. is)
+      kept = kept-refused _ _ _ _ _ _ (kept-later _ _ start c.take_front.new.self.inner _ _ c.take_front.new.self.taken _ got.kept now.kept)
+          (λ is. is)
           (text-well g.R.Read start (g.met.R.Read.stands start) (λ told. sym (bytes told).end ∙ (end told).ends_well));
       counts = now.none.lines ∙ got.lines;
       fits = tt;
       gives = gives-end _ _ _ _ _ (λ told.
-          few_clean 36 (g.R.Read.rest start) (omega arith) (few_end c.take_front.new.front _ (g.R.Read.rest c.take_front.new.self.inner) (omega arith) (bytes told) (end told)));
+          few_clean 36 (g.R.Read.rest start) (omega arith)
+          (few_end c.take_front.new.front _ (g.R.Read.rest c.take_front.new.self.inner) (omega arith) (bytes told) (end told)));
       found = tt;
       form = λ told. tt;
     }
@@ -58,11 +61,13 @@ returns-in-Err-is_at_end g c =
     let got = c.in-Ok-true.ensures in
     let now = c.in-Err-is_at_end.ensures in
     record {
-      kept = kept-error _ _ _ _ _ c.in-Err-is_at_end.e (kept-later _ _ start c.take_front.new.self.inner _ _ c.take_front.new.self.taken _ got.kept now.kept);
+      kept = kept-error _ _ _ _ _ c.in-Err-is_at_end.e
+          (kept-later _ _ start c.take_front.new.self.inner _ _ c.take_front.new.self.taken _ got.kept now.kept);
       counts = now.none.lines ∙ got.lines;
       fits = tt;
       gives = gives-asked _ _ _ _ _ (λ told other quiet.
-          few_fault 36 (g.R.Read.rest start) c.in-Err-is_at_end.e (omega arith) (few_bad c.take_front.new.front _ (g.R.Read.rest c.take_front.new.self.inner) (omega arith)
+          few_fault 36 (g.R.Read.rest start) c.in-Err-is_at_end.e (omega arith)
+          (few_bad c.take_front.new.front _ (g.R.Read.rest c.take_front.new.self.inner) (omega arith)
           (got.bytes told c.in-Ok-true.field-0-test)
           (now.cause (got.kept.keeps.same.tells ∙ told) other (quiet_after _ _ _ got.kept.keeps.same.faults now.kept.keeps.same.faults quiet))))
           (λ other. got.kept.keeps.narrows c.in-Err-is_at_end.e (now.why other));
@@ -72,7 +77,8 @@ returns-in-Err-is_at_end g c =
 
 -- a byte follows the front
 follows : (g : given.Over) (c : goal.After-after_front g) → IsTrue (g.R.Read.tells c.args.source.now.inner) →
-    IsTrue (g.R.Read.tells c.is_at_end.new.self.inner) × Delivers c.take_front.new.front (g.R.Read.rest c.args.source.now.inner) (g.R.Read.rest c.is_at_end.new.self.inner)
+    IsTrue (g.R.Read.tells c.is_at_end.new.self.inner)
+    × Delivers c.take_front.new.front (g.R.Read.rest c.args.source.now.inner) (g.R.Read.rest c.is_at_end.new.self.inner)
     × (0 < length (g.R.Read.rest c.is_at_end.new.self.inner).bytes)
 follows g c told =
     let got = c.in-Ok-true.ensures in
@@ -107,7 +113,8 @@ returns g c =
         why = λ told.
             let on = follows g c told in
             IfErr-weaker c.after_front.result _ _
-            (λ e why. end-later g.R.Read start c.is_at_end.new.self.inner _ _ e (λ e h. got.kept.keeps.narrows e (now.kept.keeps.narrows e h)) refl why)
+            (λ e why. end-later g.R.Read start c.is_at_end.new.self.inner _ _ e
+            (λ e h. got.kept.keeps.narrows e (now.kept.keeps.narrows e h)) refl why)
             (last.why on.0 (g.R.Read.rest start) on.1 on.2);
       };
       found = last.found;

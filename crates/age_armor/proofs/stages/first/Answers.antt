@@ -17,7 +17,8 @@ returns-in-Lines g c =
     let before = c.in-Ok.ensures in
     let now = c.next_line.ensures in
     let tells : (IsTrue (reader.tells old.inner) → IsTrue (reader.tells middle.inner)) = λ told. before.kept.keeps.same.tells ∙ told in
-    let same : (IsTrue (reader.tells old.inner) → ahead Start (reader.rest old.inner) ≡ ahead (Lines c.in-Lines.after_short) (reader.rest middle.inner)) = λ told.
+    let same : (IsTrue (reader.tells old.inner)
+    → ahead Start (reader.rest old.inner) ≡ ahead (Lines c.in-Lines.after_short) (reader.rest middle.inner)) = λ told.
     found_none _ _ _ _ (rw c.in-Lines.is at (before.gives.bytes told)) (rw c.in-Lines.is at before.found) in
     record {
       kept = kept-later _ _ old.inner middle.inner _ _ middle.taken _ before.kept now.kept;

@@ -19,7 +19,13 @@ returns-then-full g c =
     record {
       kept = kept-as _ _ _ _ _ now.kept;
       counts = (now.counts, omega (arith, rw full at now.lines));
-      piece = record { fits = omega arith; full = λ is. refl; ended = λ is. absurd (true≢false (sym is)); begun = refl; end = λ told none. absurd (omega (arith, none)) };
+      piece = record {
+        fits = omega arith;
+        full = λ is. refl;
+        ended = λ is. absurd (true≢false (sym is));
+        begun = refl;
+        end = λ told none. absurd (omega (arith, none));
+      };
       gives = record {
         taken = λ told. omega (arith, now.taken told full);
         bytes = λ told.
@@ -39,7 +45,8 @@ returns-in-Err g c =
       kept = kept-error _ _ _ _ _ c.in-Err.e now.kept;
       counts = (now.counts, omega (arith, now.none_taken));
       piece = piece-none _ _ _;
-      gives = gives-asked _ _ _ _ _ (λ told other quiet. no_line c.args.after_short (g.R.Read.rest c.args.source.now.inner) c.in-Err.e (now.cause told other quiet)) now.why;
+      gives = gives-asked _ _ _ _ _ (λ told other quiet. no_line c.args.after_short (g.R.Read.rest c.args.source.now.inner) c.in-Err.e
+          (now.cause told other quiet)) now.why;
       lines = tt;
       line = tt;
     }
@@ -70,7 +77,8 @@ returns g c =
     let now = c.any_line.ensures in
     let on = stays g c in
     let stage = Lines c.args.after_short in
-    let same : (IsTrue (reader.tells old.inner) → ahead stage (reader.rest old.inner) ≡ ahead stage (reader.rest middle.inner)) = λ told. ap (ahead stage) (sym (on.3 told).0) in
+    let same : (IsTrue (reader.tells old.inner) → ahead stage (reader.rest old.inner) ≡ ahead stage (reader.rest middle.inner)) =
+    λ told. ap (ahead stage) (sym (on.3 told).0) in
     record {
       kept = elim c.if-not-after_short.branch [
         | then-not-after_short+in-Ok+else-full w ↦
@@ -79,7 +87,8 @@ returns g c =
       ];
       counts = (omega (arith, on.0, now.counts.0), omega (arith, on.0, now.counts.1));
       piece = piece-later stage stage old middle c.any_line.result (λ told. on.1 ∙ told) same now.piece;
-      gives = gives-later stage stage old middle c.any_line.new.source c.any_line.new.bytes c.any_line.result (λ told. on.1 ∙ told) on.2 now.kept.keeps.same.faults
+      gives = gives-later stage stage old middle c.any_line.new.source c.any_line.new.bytes c.any_line.result
+          (λ told. on.1 ∙ told) on.2 now.kept.keeps.same.faults
           (λ told. (on.3 told).1) same on.4 now.gives;
       lines = now.lines;
       line = IfOk-weaker c.any_line.result _ _ (λ piece is. is ∙ ap (λ n. one_line_more n) on.0) now.line;

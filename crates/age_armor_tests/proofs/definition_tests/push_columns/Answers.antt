@@ -14,4 +14,5 @@ returns-then-is_empty c = armor_over c.loop-rest.out.items c.loop-rest.rest.now 
 pub returns-else-is_empty : goal.returns-else-is_empty
 returns-else-is_empty c =
     let some : 0 < length c.loop-rest.rest.now = grind arith in
-    on_ok_weaker c.push_line-else-is_empty.result (armor_end c.loop-rest.out.items _ c.loop-rest.rest.now _ c.loop-rest.invariant some (omega arith)) c.push_line-else-is_empty.ensures
+    on_ok_weaker c.push_line-else-is_empty.result
+    (armor_end c.loop-rest.out.items _ c.loop-rest.rest.now _ c.loop-rest.invariant some (omega arith)) c.push_line-else-is_empty.ensures

@@ -11,5 +11,6 @@ returns-in-Ok-clause-found c =
 pub unreachable-requires : goal.unreachable-requires
 unreachable-requires c =
     let failure = c.in-Err-DecodeError.ensures.err in
-    refused-columns c.header_engine-engine.result c.args.text.now c.in-Err-DecodeError.field-0-0 c.header_engine-engine.ensures (λ i. let f = c.type_inv.text i in omega arith)
+    refused-columns c.header_engine-engine.result c.args.text.now c.in-Err-DecodeError.field-0-0 c.header_engine-engine.ensures
+    (λ i. let f = c.type_inv.text i in omega arith)
     (rw c.in-Err-DecodeError.field-0-is at failure) (c.are_columns.ensures.is c.if-not-are_columns.false)

@@ -10,4 +10,5 @@ returns-in-Ok-clause-is c is_true =
     (All-take (λ x. x < 2 ^ 8) c.in-Ok.field-0 out c.known_bytes.ensures) c.in-Ok.ensures.ok.0
 
 pub returns-in-Err-clause-not : goal.returns-in-Err-clause-not
-returns-in-Err-clause-not c is_false = refused-columns c.args.engine.now c.args.piece.now c.in-Err.field-0 c.requires.engine (λ i. let f = c.type_inv.piece i in omega arith) c.in-Err.ensures.err
+returns-in-Err-clause-not c is_false = refused-columns c.args.engine.now c.args.piece.now c.in-Err.field-0 c.requires.engine
+    (λ i. let f = c.type_inv.piece i in omega arith) c.in-Err.ensures.err

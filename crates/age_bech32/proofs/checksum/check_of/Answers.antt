@@ -12,7 +12,9 @@ returns-clause-check c =
     let front = expanded c.args.prefix.now ++ c.args.values.now in
     let sum : c.remainder_of_values-sum-2.result ≡ remainder (front ++ zeros) =
     c.remainder_of_values-sum-2.ensures.value ∙ ap (λ x. remainder_after x zeros) (c.remainder_of_values-sum.ensures.value
-    ∙ ap (λ x. remainder_after x c.args.values.now) c.remainder_of_prefix.ensures.value ∙ sym (after-append 1 (expanded c.args.prefix.now) c.args.values.now))
+    ∙ ap (λ x. remainder_after x c.args.values.now) c.remainder_of_prefix.ensures.value
+    ∙ sym (after-append 1 (expanded c.args.prefix.now) c.args.values.now))
     ∙ sym (after-append 1 front zeros) in
-    six_is (bit_xor c.remainder_of_values-sum-2.result 1) (xor_lt 30 c.remainder_of_values-sum-2.result 1 c.remainder_of_values-sum-2.ensures.bound (omega arith))
+    six_is (bit_xor c.remainder_of_values-sum-2.result 1)
+    (xor_lt 30 c.remainder_of_values-sum-2.result 1 c.remainder_of_values-sum-2.ensures.bound (omega arith))
     ∙ ap (λ x. digits 5 6 (bit_xor x 1)) sum

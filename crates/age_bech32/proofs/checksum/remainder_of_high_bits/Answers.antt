@@ -11,4 +11,5 @@ loop-byte-preserved c = record {
 }
 
 pub returns-clause-value : goal.returns-clause-value
-returns-clause-value c = sym (after-end_lowered (λ b. b / 2 ^ 5) c.loop-byte.sum c.args.prefix.now c.loop-byte.byte-index c.loop-byte-test.false) ∙ c.loop-byte.invariant.left
+returns-clause-value c = sym (after-end_lowered (λ b. b / 2 ^ 5) c.loop-byte.sum c.args.prefix.now c.loop-byte.byte-index c.loop-byte-test.false)
+    ∙ c.loop-byte.invariant.left

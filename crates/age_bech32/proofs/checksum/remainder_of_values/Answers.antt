@@ -11,4 +11,5 @@ loop-value-preserved c = record {
 }
 
 pub returns-clause-value : goal.returns-clause-value
-returns-clause-value c = sym (after-end c.loop-value.sum c.args.values.now c.loop-value.value-index c.loop-value-test.false) ∙ c.loop-value.invariant.left
+returns-clause-value c = sym (after-end c.loop-value.sum c.args.values.now c.loop-value.value-index c.loop-value-test.false)
+    ∙ c.loop-value.invariant.left

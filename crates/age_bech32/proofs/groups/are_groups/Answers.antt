@@ -13,7 +13,8 @@ returns-then-unused-gt4 c =
 pub returns-then-is_empty : goal.returns-then-is_empty
 returns-then-is_empty c =
     no_groups_at_all (values_of c.args.symbols.now)
-    (values-size c.args.symbols.now ∙ eqb-true (length c.args.symbols.now) 0 (sym c.is_empty.ensures ∙ c.if-is_empty.true)) (values-fit c.args.symbols.now c.requires)
+    (values-size c.args.symbols.now ∙ eqb-true (length c.args.symbols.now) 0 (sym c.is_empty.ensures ∙ c.if-is_empty.true))
+    (values-fit c.args.symbols.now c.requires)
 
 pub returns : goal.returns
 returns c =
@@ -24,4 +25,5 @@ returns c =
     let within : mid < length c.args.symbols.now = omega arith in
     let last : c.last_bits.result ≡ get_or (values_of c.args.symbols.now) mid 0 % 2 ^ unused =
     c.last_bits.ensures ∙ ap (λ v. v % 2 ^ unused) (c.from.ensures ∙ c.known_value-last.ensures ∙ sym (value-at c.args.symbols.now mid within)) in
-    judged (values_of c.args.symbols.now) mid unused c.last_bits.result (values-fit c.args.symbols.now c.requires) (omega arith) (omega arith) c.if-unused-gt4.false last
+    judged (values_of c.args.symbols.now) mid unused c.last_bits.result (values-fit c.args.symbols.now c.requires) (omega arith)
+    (omega arith) c.if-unused-gt4.false last

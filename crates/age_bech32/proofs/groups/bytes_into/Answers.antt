@@ -12,15 +12,19 @@ loop-symbol-init c = record { few = omega arith; placed = omega arith; state = b
 pub give-held-requires-clause-fits : goal.give-held-requires-clause-fits
 give-held-requires-clause-fits c =
     let full : c.loop-symbol.count + 5 ≡ c.loop-symbol.count + 5 - 8 + 8 = omega arith in
-    given_fits 5 8 (values_of c.args.symbols.now) (take c.loop-symbol.at c.loop-symbol.bytes) (c.loop-symbol.symbol-index + 1) (c.loop-symbol.count + 5) (c.loop-symbol.count + 5 - 8)
+    given_fits 5 8 (values_of c.args.symbols.now) (take c.loop-symbol.at c.loop-symbol.bytes) (c.loop-symbol.symbol-index + 1)
+    (c.loop-symbol.count + 5) (c.loop-symbol.count + 5 - 8)
     c.joined-held.result full
-    (joined_symbol 5 8 c.args.symbols.now (take c.loop-symbol.at c.loop-symbol.bytes) c.loop-symbol.symbol-index c.loop-symbol.count c.loop-symbol.held c.joined-held.result
+    (joined_symbol 5 8 c.args.symbols.now (take c.loop-symbol.at c.loop-symbol.bytes) c.loop-symbol.symbol-index c.loop-symbol.count
+    c.loop-symbol.held c.joined-held.result
     c.known_value.result c.loop-symbol-test.true c.requires.symbols c.known_value.ensures c.loop-symbol.invariant.state c.joined-held.ensures)
 
 pub loop-symbol-preserved : goal.loop-symbol-preserved
 loop-symbol-preserved c =
-    let state : Regrouping 5 8 (values_of c.args.symbols.now) (take c.loop-symbol.at c.loop-symbol.bytes) (c.loop-symbol.symbol-index + 1) (c.loop-symbol.count + 5) c.joined-held.result =
-    joined_symbol 5 8 c.args.symbols.now (take c.loop-symbol.at c.loop-symbol.bytes) c.loop-symbol.symbol-index c.loop-symbol.count c.loop-symbol.held c.joined-held.result
+    let state : Regrouping 5 8 (values_of c.args.symbols.now) (take c.loop-symbol.at c.loop-symbol.bytes) (c.loop-symbol.symbol-index + 1)
+    (c.loop-symbol.count + 5) c.joined-held.result =
+    joined_symbol 5 8 c.args.symbols.now (take c.loop-symbol.at c.loop-symbol.bytes) c.loop-symbol.symbol-index c.loop-symbol.count
+    c.loop-symbol.held c.joined-held.result
     c.known_value.result c.loop-symbol-test.true c.requires.symbols c.known_value.ensures c.loop-symbol.invariant.state c.joined-held.ensures in
     elim c.if-count-ge8.branch [
       | then-count-ge8 w ↦
@@ -51,5 +55,6 @@ returns c =
     let size : length (values_of c.args.symbols.now) ≡ length c.args.symbols.now = values-size c.args.symbols.now in
     let full : length c.loop-symbol.bytes ≤ c.loop-symbol.at = omega arith in
     sym (whole c.loop-symbol.bytes c.loop-symbol.at full)
-    ∙ bytes-same (values_of c.args.symbols.now) (take c.loop-symbol.at c.loop-symbol.bytes) c.loop-symbol.symbol-index c.loop-symbol.count c.loop-symbol.held
+    ∙ bytes-same (values_of c.args.symbols.now)
+    (take c.loop-symbol.at c.loop-symbol.bytes) c.loop-symbol.symbol-index c.loop-symbol.count c.loop-symbol.held
     (omega arith) (omega arith) c.loop-symbol.invariant.few c.loop-symbol.invariant.state

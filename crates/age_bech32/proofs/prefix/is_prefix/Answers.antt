@@ -12,7 +12,8 @@ loop-byte-preserved c = record {
 
 pub returns : goal.returns
 returns c =
-    let all : take c.loop-byte.byte-index c.args.bytes.now ≡ c.args.bytes.now = whole c.args.bytes.now c.loop-byte.byte-index c.loop-byte-test.false in
+    let all : take c.loop-byte.byte-index c.args.bytes.now ≡ c.args.bytes.now =
+    whole c.args.bytes.now c.loop-byte.byte-index c.loop-byte-test.false in
     let some : length c.args.bytes.now ≢ 0 = eqb-false (length c.args.bytes.now) 0 (sym c.is_empty.ensures ∙ c.if-is_empty.false) in
     record {
       some = omega arith;

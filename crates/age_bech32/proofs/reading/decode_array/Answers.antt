@@ -9,5 +9,6 @@ pub returns-then-byte_count : goal.returns-then-byte_count
 returns-then-byte_count g c = (
   bytes_of_groups (values_of c.in-Some.symbols.now),
   c.in-Some.ensures.1,
-  λ e. c.if-byte_count.true (c.byte_count.ensures ∙ ap byte_count (sym (values-size c.in-Some.symbols.now)) ∙ sym (length-bytes (values_of c.in-Some.symbols.now)) ∙ e),
+  λ e. c.if-byte_count.true (c.byte_count.ensures ∙ ap byte_count (sym (values-size c.in-Some.symbols.now))
+      ∙ sym (length-bytes (values_of c.in-Some.symbols.now)) ∙ e),
 )

@@ -13,7 +13,8 @@ returns-in_default c = no_symbols c.args.prefix.now c.args.rest.now c.in_default
 pub returns-then-sum-ne-CLOSED : goal.returns-then-sum-ne-CLOSED
 returns-then-sum-ne-CLOSED c =
     wrong_check c.args.prefix.now c.args.rest.now c.in-Some.ensures.0
-    (λ e. c.if-sum-ne-CLOSED.true (c.in-Some.ensures.1 ∙ ap (λ s. remainder_after s (values_of c.args.rest.now)) c.remainder_of_prefix.ensures.value ∙ e))
+    (λ e. c.if-sum-ne-CLOSED.true (c.in-Some.ensures.1
+    ∙ ap (λ s. remainder_after s (values_of c.args.rest.now)) c.remainder_of_prefix.ensures.value ∙ e))
 
 pub returns-then-not-are_groups : goal.returns-then-not-are_groups
 returns-then-not-are_groups c =
@@ -25,7 +26,8 @@ pub returns : goal.returns
 returns c =
     let mid = length c.args.rest.now - 6 in
     let closed : remainder_after (remainder (expanded c.args.prefix.now)) (values_of c.args.rest.now) ≡ 1 =
-    ap (λ s. remainder_after s (values_of c.args.rest.now)) (sym c.remainder_of_prefix.ensures.value) ∙ sym c.in-Some.ensures.1 ∙ c.if-sum-ne-CLOSED.false in
+    ap (λ s. remainder_after s (values_of c.args.rest.now)) (sym c.remainder_of_prefix.ensures.value) ∙ sym c.in-Some.ensures.1
+    ∙ c.if-sum-ne-CLOSED.false in
     let front : c.split_at.result.0.now ≡ take mid c.args.rest.now = c.split_at.ensures.front in
     subst (λ g. AreSymbols g × IsPayload c.args.prefix.now c.args.rest.now (bytes_of_groups (values_of g))) (sym front)
     (read c.args.prefix.now c.args.rest.now c.in-Some.ensures.0 mid (omega arith) closed (bytes_of_groups (values_of (take mid c.args.rest.now)))

@@ -5,8 +5,11 @@ use Rattle.age_bech32.proofs.symbols.value_of.Goals as goal
 
 pub returns-then-from-lower : goal.returns-then-from-lower
 unfolding symbol
-returns-then-from-lower c =
-    (omega arith, sym (value_is c.args.byte c.loop-value.value (omega arith) (sym c.to_ascii_lowercase-lower.ensures.value ∙ sym c.if-from-lower.true ∙ ap symbol c.from.ensures)))
+returns-then-from-lower c = (
+  omega arith,
+  sym (value_is c.args.byte c.loop-value.value (omega arith)
+      (sym c.to_ascii_lowercase-lower.ensures.value ∙ sym c.if-from-lower.true ∙ ap symbol c.from.ensures)),
+)
 
 pub loop-value-preserved : goal.loop-value-preserved
 unfolding symbol

@@ -11,6 +11,7 @@ returns c =
     IfOk-weaker c.parse_two.result (λ found. AsksFor (name ∷ word ∷ []) (option_map command_value found))
     (λ found. AsksFor (map string_bytes c.args.words.now) (option_map command_value found))
     (λ found asks.
-    two string_bytes c.args.words.now c.name-item.result c.word-item.result name word _ c.in-len2.len_at_least c.in-len2.len_below c.name-item.is c.word-item.is
+    two string_bytes c.args.words.now c.name-item.result c.word-item.result name word _ c.in-len2.len_at_least c.in-len2.len_below c.name-item.is
+    c.word-item.is
     c.as_str.ensures.value c.as_str-2.ensures.value asks)
     c.parse_two.ensures

@@ -12,4 +12,5 @@ loop-i-preserved c =
     (byte_more c.args.text.now c.loop-i.bytes.items (2 * c.loop-i.i) c.in-Some.byte (omega arith) (sym c.in-Some.ensures) c.loop-i.invariant)
 
 pub returns : goal.returns
-returns c = text_done c.args.text.now c.loop-i.bytes.items (2 * c.loop-i.i) (omega (arith, c.if-text-ne0.false, c.loop-i-test.false)) c.loop-i.invariant
+returns c = text_done c.args.text.now c.loop-i.bytes.items (2 * c.loop-i.i)
+    (omega (arith, c.if-text-ne0.false, c.loop-i-test.false)) c.loop-i.invariant

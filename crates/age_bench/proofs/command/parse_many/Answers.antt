@@ -35,6 +35,7 @@ returns c = λ other.
     (λ found. AsksFor (map string_bytes c.args.words.now) (option_map command_value found))
     (λ found asks.
     behind string_bytes c.args.words.now c.name-item.result c.second-item.result c.third-item.result (codes "encrypt") name to draw _
-    c.in-len3-up.len_at_least c.name-item.is c.second-item.is c.third-item.is c.as_str-2.ensures.value c.as_str-3.ensures.value c.as_str-4.ensures.value
+    c.in-len3-up.len_at_least c.name-item.is c.second-item.is c.third-item.is c.as_str-2.ensures.value c.as_str-3.ensures.value
+    c.as_str-4.ensures.value
     (not_not (bytes_eq name (codes "encrypt")) c.if-ne.ensures) (c.in-Some.ensures to draw _ asks))
     c.parse_encrypt.ensures

@@ -8,4 +8,5 @@ use Rattle.age_bench.proofs.command.parse_to.Goals as goal
 pub returns-in-Err : goal.returns-in-Err
 returns-in-Err c =
     let word = c.args.word.now in
-    no_recipient word _ _ (λ same. false≢true (c.if-eq.ensures ∙ (bytes_eq-Decides word (codes "bench")).1 same)) c.in_default.ensures c.in-Err.ensures
+    no_recipient word _ _ (λ same. false≢true (c.if-eq.ensures ∙ (bytes_eq-Decides word (codes "bench")).1 same)) c.in_default.ensures
+    c.in-Err.ensures

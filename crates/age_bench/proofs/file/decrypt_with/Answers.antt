@@ -8,6 +8,8 @@ use Rattle.age_bench.proofs.file.decrypt_with.Goals as goal
 pub returns : goal.returns
 returns g c =
     let with_ = c.args.with in
-    decrypts_all_as _ _ _ _ (gives_of with_) _ (answers_of with_) _ (IsFileFor bench_seal (answers_of with_)) c.args.reader.now c.args.writer.now _ c.decrypt_all.result
-    (λ key stanzas by. answers with_ stanzas _ (_, by)) (λ stanzas answer by. answers with_ stanzas answer (_, by)) (λ plain file for. file_for with_ plain file for)
+    decrypts_all_as _ _ _ _ (gives_of with_) _ (answers_of with_) _
+    (IsFileFor bench_seal (answers_of with_)) c.args.reader.now c.args.writer.now _ c.decrypt_all.result
+    (λ key stanzas by. answers with_ stanzas _ (_, by)) (λ stanzas answer by. answers with_ stanzas answer (_, by))
+    (λ plain file for. file_for with_ plain file for)
     c.decrypt_all.ensures

@@ -1,4 +1,4 @@
-use Rattle.std.specs.Prelude.{◌≡◌, ◌∷◌, [], ℕ, List, IsTrue, length, Some, Ok, Err}
+use Rattle.std.specs.Prelude.{◌≡◌, ◌∷◌, [], ℕ, List, Some, Ok, Err}
 use Rattle.std.proofs.Common.{◌⊎◌}
 use Rattle.std.proofs.lemmas.Result.{on_ok_weaker, IfErr-weaker}
 use Rattle.age.specs.Armor.{text_of}
@@ -21,7 +21,8 @@ returns-clause-file g c = λ reader_told writer_told.
     on_ok_weaker c.encrypt_all.result
     (λ done.
     let (file, prepares, made) = done in
-    let by_draws : Prepares WrapsTo (c.args.to ∷ []) (Some bench_grease) c.args.draw (Ok file) c.encrypt_all.new.draw = rw c.in_ok-grease.ensures.value at prepares in
+    let by_draws : Prepares WrapsTo (c.args.to ∷ []) (Some bench_grease) c.args.draw (Ok file) c.encrypt_all.new.draw =
+    rw c.in_ok-grease.ensures.value at prepares in
     (_, filed c.args.to c.args.draw (g.R.Read.rest c.args.reader.now).bytes file _ by_draws, made.ended, made.out))
     (c.encrypt_all.ensures.file reader_told writer_told)
 
@@ -48,7 +49,8 @@ returns-clause-why g c =
     let comes : EncryptRefusal → Type 0 = λ refusal. Prepares WrapsTo (to ∷ []) (Some bench_grease) draw (Err refusal) left in
     let told : EncryptRefusal → Type 0 = λ refusal. (refusal ≡ OutOfMemory) ⊎ ((plain : List ℕ) → file_by to draw plain ≡ Err refusal) in
     IfErr-weaker c.encrypt_all.result (EncryptsUnless comes) (EncryptsUnless told)
-    (encrypts_weaker comes told (λ refusal prepares. never_filed to draw refusal left prepares)) (rw c.in_ok-grease.ensures.value at c.encrypt_all.ensures.why)
+    (encrypts_weaker comes told (λ refusal prepares. never_filed to draw refusal left prepares))
+    (rw c.in_ok-grease.ensures.value at c.encrypt_all.ensures.why)
 
 pub returns-clause-io : goal.returns-clause-io
 returns-clause-io g c =

@@ -12,7 +12,8 @@ abbrev line_by : List ℕ → List ℕ
 line_by secret = bech32_text identity_prefix secret ++ 10 ∷ []
 
 -- the first n bytes of a line are a beginning of it
-front_of : {W : Type 0} (appended : W → List ℕ → W → Type 0) (n : ℕ) (line known : List ℕ) (old new : W) → line ≡ known → appended old (take n line) new
+front_of : {W : Type 0} (appended : W → List ℕ → W → Type 0) (n : ℕ) (line known : List ℕ) (old new : W) → line ≡ known
+    → appended old (take n line) new
     → AppendsFront appended known old new
 front_of appended n line known old new is out =
     record { front = take n line; after = drop n line; joined = sym is ∙ sym (take-append-drop n line); out = out }

@@ -27,5 +27,6 @@ digits-preserved c =
 pub returns : goal.returns
 returns c =
     let n = c.digits.number in
-    sym (c.digits.invariant.same ∙ ap (λ (l : List ℕ). option_and_then within_64 (digits_after n l)) (nil_from_length c.digits.rest.now c.in_default.ensures.cases)
+    sym (c.digits.invariant.same ∙ ap (λ (l : List ℕ). option_and_then within_64 (digits_after n l))
+    (nil_from_length c.digits.rest.now c.in_default.ensures.cases)
     ∙ digits_done n c.digits.invariant.small)

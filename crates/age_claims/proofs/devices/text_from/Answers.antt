@@ -15,12 +15,12 @@ returns-in-Err-clause-refused g c = λ told well quiet.
     c.in-Err.ensures.why c.in-Err.ensures.io (λ e refused. refused.why told well quiet)
 
 pub returns-in-Ok-clause-text : goal.returns-in-Ok-clause-text
-returns-in-Ok-clause-text g c = λ told one belongs keeps.
+returns-in-Ok-clause-text g c = λ told one belongs apart.
     let reader = c.args.reader.now in
     let tells = and-left _ _ told in
     let (file, prepares, appends) = c.in-Ok.ensures.file tells refl in
     let bytes = rest-bytes (g.R.Read.content reader) (g.R.Read.rest reader) (g.R.Read.place reader)
     (g.met.R.Read.stands reader tells (and-right _ _ told)) (g.met.R.Read.are_bytes reader tells) in
     let for = c.several_recipients.ensures.any c.args.recipients.now one (Some c.args.grease) c.args.draw.now _ file _ _ belongs prepares
-    appends.is_file bytes appends.within (keeps _ _) in
+    appends.is_file bytes appends.within (apart file prepares appends.is_file) in
     carries_for _ _ _ _ _ _ _ refl (rw c.new-text.ensures.items at appends.out) (appends.carries bytes) for

@@ -5,11 +5,11 @@ use Rattle.age_claims.proofs.Outcomes.{want_of, want_back}
 use Rattle.age_claims.proofs.kept.kept.Goals as goal
 
 pub returns-in-Err : goal.returns-in-Err
-returns-in-Err g c = λ one only belongs keeps. c.in-Err.ensures.refused
+returns-in-Err g c = λ one only belongs apart. c.in-Err.ensures.refused
 
 pub returns-in-Err-decrypt_all : goal.returns-in-Err-decrypt_all
-returns-in-Err-decrypt_all g c = λ one only belongs keeps.
-    let wrote = c.in-Ok.ensures.text one belongs keeps in
+returns-in-Err-decrypt_all g c = λ one only belongs apart.
+    let wrote = c.in-Ok.ensures.text one belongs apart in
     let input = c.new-text.ensures.rest in
     let carries = carries_as _ _ _ (ap (λ s. s.bytes) input ∙ c.deref.ensures.value) wrote.carries in
     let for = rw (← only) at wrote.is_for in
@@ -20,8 +20,8 @@ returns-in-Err-decrypt_all g c = λ one only belongs keeps.
     (d.written refl (ap (λ s. s.ends_well) input) (λ r. refl) _ _ carries for))
 
 pub returns : goal.returns
-returns g c = λ one only belongs keeps.
-    let wrote = c.in-Ok.ensures.text one belongs keeps in
+returns g c = λ one only belongs apart.
+    let wrote = c.in-Ok.ensures.text one belongs apart in
     let carries = carries_as _ _ _ (ap (λ s. s.bytes) c.new-text.ensures.rest ∙ c.deref.ensures.value) wrote.carries in
     let got = c.in-Ok-decrypt_all.ensures.file refl refl in
     rw c.new-given.ensures.items at got.out

@@ -27,7 +27,7 @@ returns-clause-front g c = λ writer_told file plain n for fewer carries.
     (c.decrypt_all.ensures.front refl writer_told)
 
 pub returns-clause-refused : goal.returns-clause-refused
-returns-clause-refused g c = λ writer_told keeps file plain n for fewer carries.
+returns-clause-refused g c = λ writer_told file plain n for fewer apart carries.
     let seal_of = g.S.Suite.seal_of in
     let unwraps = g.I.Identity.unwraps in
     let key = payload_key for.file_key for.is_file.nonce in
@@ -35,7 +35,7 @@ returns-clause-refused g c = λ writer_told keeps file plain n for fewer carries
     on_ok_weaker c.decrypt_all.result
     (λ got. never_whole seal_of g.S.Suite.opened c.delivery_laws.ensures.payload_opens c.delivery_laws.ensures.cut_payload
     c.payload_laws.ensures.length
-    key plain got.plain n (payload_key-bytes for.file_key for.is_file.nonce) for.bytes got.file.bytes for.within fewer (keeps key got.plain)
+    key plain got.plain n (payload_key-bytes for.file_key for.is_file.nonce) for.bytes got.file.bytes for.within fewer g.met.S.Suite.cipher apart
     (behind seal_of (FirstAnswer unwraps c.args.identities.now) (GivesFirst unwraps c.args.identities.now c.decrypt_all.new.identities) _ file plain
     (take (65552 * n) (payload seal_of key plain)) got.plain for
     (given_key seal_of unwraps plain file c.args.identities.now c.decrypt_all.new.identities for)

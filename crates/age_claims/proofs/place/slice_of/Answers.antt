@@ -6,11 +6,11 @@ use Rattle.age_claims.proofs.Written.{slice_replies}
 use Rattle.age_claims.proofs.place.slice_of.Goals as goal
 
 pub returns-in-Err : goal.returns-in-Err
-returns-in-Err g c = λ one only belongs keeps inside. c.in-Err.ensures.refused
+returns-in-Err g c = λ one only belongs apart inside. c.in-Err.ensures.refused
 
 pub returns : goal.returns
-returns g c = λ one only belongs keeps inside.
-    let wrote = c.in-Ok.ensures.text one belongs keeps in
+returns g c = λ one only belongs apart inside.
+    let wrote = c.in-Ok.ensures.text one belongs apart in
     let input = c.new.ensures.rest in
     let carries = carries_as _ _ _ (ap (λ s. s.bytes) input ∙ c.deref.ensures.value) wrote.carries in
     match_weaker _ _ _ _ c.answers.result

@@ -6,11 +6,13 @@ pub returns-in-Ok : goal.returns-in-Ok
 returns-in-Ok g c =
     let suite = g.S.Suite in
     let (answer, asked, opens) = c.in-Ok.ensures in
-    stream_named suite g.R.Read _ _ _ (UnwrapsUnder suite.opened suite.stretch_of suite.accepts) c.args.identity c.in-Ok.stream (answer, c.decrypt_one.new.identity, asked, opens)
+    stream_named suite g.R.Read _ _ _ (UnwrapsUnder suite.opened suite.stretch_of suite.accepts) c.args.identity c.in-Ok.stream
+    (answer, c.decrypt_one.new.identity, asked, opens)
 
 pub returns : goal.returns
 returns g c =
     let suite = g.S.Suite in
     let (answer, asked, refused) = c.in-Err.ensures in
-    refusal_named suite g.R.Read _ _ _ (UnwrapsUnder suite.opened suite.stretch_of suite.accepts) c.args.identity c.in-Err.e c.named.result c.named.ensures
+    refusal_named suite g.R.Read _ _ _ (UnwrapsUnder suite.opened suite.stretch_of suite.accepts) c.args.identity c.in-Err.e c.named.result
+    c.named.ensures
     (answer, c.decrypt_one.new.identity, asked, refused)

@@ -7,6 +7,6 @@ pub returns : goal.returns
 returns g c =
     let one = belongs_alone _ _ has_other_tag _ _ _ (ap (λ r. r ∷ []) c.to_public.ensures) c.x25519_pair.ensures.beside_others in
     record {
-      plaintext = λ keeps. c.opened_by_one.ensures.plaintext one keeps;
-      refused = λ keeps. rw c.to_public.ensures at (c.opened_by_one.ensures.refused one keeps);
+      plaintext = rw c.to_public.ensures at (c.opened_by_one.ensures.plaintext one);
+      refused = rw c.to_public.ensures at (c.opened_by_one.ensures.refused one);
     }

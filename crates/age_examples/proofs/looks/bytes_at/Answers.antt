@@ -23,10 +23,13 @@ looks-preserved g c =
           omega (arith, more, loop.lines told steady before within, ap length front);
       content = λ told. now.content (loop.tells ∙ told) ∙ loop.content told;
       bytes = λ told steady.
-          let look = subst (λ s. IsLook s.bytes c.in-Some.place.now c.in-Ok.count c.look.new.byte) (loop.content told) (now.byte (loop.tells ∙ told) (loop.steady ∙ steady)) in
-          let all = grown (armored_content c.args.reader.now).bytes c.args.places.now c.looks.rest.now c.in-Some.tail.now c.in-Some.place.now c.in-Ok.count
+          let look = subst (λ s. IsLook s.bytes c.in-Some.place.now c.in-Ok.count c.look.new.byte) (loop.content told)
+          (now.byte (loop.tells ∙ told) (loop.steady ∙ steady)) in
+          let all = grown (armored_content c.args.reader.now).bytes c.args.places.now c.looks.rest.now c.in-Some.tail.now c.in-Some.place.now
+          c.in-Ok.count
           c.looks.bytes.items c.look.new.byte look c.if-count-eq0.false front (loop.bytes told steady) in
-          all ∙ ap (λ xs. map Some xs ++ map (slice_get (armored_content c.args.reader.now).bytes) c.in-Some.tail.now) (sym c.in_ok-extend_from_slice.ensures.items);
+          all ∙ ap (λ xs. map Some xs ++ map (slice_get (armored_content c.args.reader.now).bytes) c.in-Some.tail.now)
+          (sym c.in_ok-extend_from_slice.ensures.items);
       outside = λ one. loop.outside (subst (IsOneOutside (armored_content c.args.reader.now).bytes) (sym front) (inr one));
       narrows = λ e why. loop.narrows e (now.narrows e why);
     }
@@ -43,14 +46,17 @@ returns-then-count-eq0-clause-why g c = inr (inr (inr (
   λ told steady.
       let loop = c.looks.invariant in
       let reader = c.args.reader.now in
-      let look = subst (λ s. IsLook s.bytes c.in-Some.place.now c.in-Ok.count c.look.new.byte) (loop.content told) (c.in-Ok.ensures.byte (loop.tells ∙ told) (loop.steady ∙ steady)) in
-      loop.outside (behind (armored_content reader).bytes c.looks.rest.now c.in-Some.tail.now c.in-Some.place.now c.in-Ok.count c.look.new.byte look c.if-count-eq0.true
+      let look = subst (λ s. IsLook s.bytes c.in-Some.place.now c.in-Ok.count c.look.new.byte) (loop.content told)
+      (c.in-Ok.ensures.byte (loop.tells ∙ told) (loop.steady ∙ steady)) in
+      loop.outside (behind (armored_content reader).bytes c.looks.rest.now c.in-Some.tail.now c.in-Some.place.now c.in-Ok.count c.look.new.byte
+      look c.if-count-eq0.true
       c.in-Some.ensures.cases.0),
 )))
 
 pub returns-clause-bytes : goal.returns-clause-bytes
 returns-clause-bytes g c = λ told steady.
-    ended (armored_content c.args.reader.now).bytes c.args.places.now c.looks.rest.now c.looks.bytes.items c.in_default.ensures.cases (c.looks.invariant.bytes told steady)
+    ended (armored_content c.args.reader.now).bytes c.args.places.now c.looks.rest.now c.looks.bytes.items c.in_default.ensures.cases
+    (c.looks.invariant.bytes told steady)
 
 pub returns-in-Err-clause-cause : goal.returns-in-Err-clause-cause
 returns-in-Err-clause-cause g c = λ told steady well memory quiet.
@@ -59,12 +65,15 @@ returns-in-Err-clause-cause g c = λ told steady well memory quiet.
     let sound = ap (λ s. s.ends_well) (loop.content told) ∙ well in
     let none = now.cause (loop.tells ∙ told) (loop.steady ∙ steady) sound memory (quiet_from loop.faults now.faults quiet) in
     let bytes = (armored_content c.args.reader.now).bytes in
-    loop.outside (subst (IsOneOutside bytes) (sym c.in-Some.ensures.cases.0) (inl (subst (λ s. slice_get s.bytes c.in-Some.place.now ≡ None) (loop.content told) none)))
+    loop.outside (subst (IsOneOutside bytes) (sym c.in-Some.ensures.cases.0)
+    (inl (subst (λ s. slice_get s.bytes c.in-Some.place.now ≡ None) (loop.content told) none)))
 
 pub returns-then-count-eq0-clause-cause : goal.returns-then-count-eq0-clause-cause
 returns-then-count-eq0-clause-cause g c = λ told steady well memory quiet.
     let loop = c.looks.invariant in
     let reader = c.args.reader.now in
-    let look = subst (λ s. IsLook s.bytes c.in-Some.place.now c.in-Ok.count c.look.new.byte) (loop.content told) (c.in-Ok.ensures.byte (loop.tells ∙ told) (loop.steady ∙ steady)) in
-    loop.outside (behind (armored_content reader).bytes c.looks.rest.now c.in-Some.tail.now c.in-Some.place.now c.in-Ok.count c.look.new.byte look c.if-count-eq0.true
+    let look = subst (λ s. IsLook s.bytes c.in-Some.place.now c.in-Ok.count c.look.new.byte) (loop.content told)
+    (c.in-Ok.ensures.byte (loop.tells ∙ told) (loop.steady ∙ steady)) in
+    loop.outside (behind (armored_content reader).bytes c.looks.rest.now c.in-Some.tail.now c.in-Some.place.now c.in-Ok.count c.look.new.byte look
+    c.if-count-eq0.true
     c.in-Some.ensures.cases.0)

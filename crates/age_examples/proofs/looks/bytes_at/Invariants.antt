@@ -18,7 +18,8 @@ invariant-looks g l =
           lines_of l.reader + 1025 * length l.rest ≤ lines_of l.fn.reader + 1025 * length l.places;
       content : IsTrue (reader.tells (inner_of l.fn.reader)) → armored_content l.reader ≡ armored_content l.fn.reader;
       bytes : IsTrue (reader.tells (inner_of l.fn.reader)) → IsTrue (reader.steady (inner_of l.fn.reader)) →
-          map (slice_get (armored_content l.fn.reader).bytes) l.places ≡ map Some l.bytes.items ++ map (slice_get (armored_content l.fn.reader).bytes) l.rest;
+          map (slice_get (armored_content l.fn.reader).bytes) l.places
+          ≡ map Some l.bytes.items ++ map (slice_get (armored_content l.fn.reader).bytes) l.rest;
       outside : IsOneOutside (armored_content l.fn.reader).bytes l.rest → IsOneOutside (armored_content l.fn.reader).bytes l.places;
       narrows : AddsNoReason (λ r. refuses_of r) l.fn.reader l.reader;
     }

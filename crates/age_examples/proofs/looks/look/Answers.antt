@@ -18,7 +18,12 @@ returns-in-Ok-clause-learns g c =
 
 pub returns-in-Ok-clause-lines : goal.returns-in-Ok-clause-lines
 returns-in-Ok-clause-lines g c = λ told steady noting behind.
-    on_ok_weaker c.read.result (λ reached. omega (arith, c.in-Ok.ensures.besides.counts.marks told steady noting behind, c.read.ensures.besides.learns.lines.1))
+    on_ok_weaker c.read.result (λ reached. omega (
+      arith,
+      c.in-Ok.ensures.besides.counts.marks told steady noting
+          behind,
+      c.read.ensures.besides.learns.lines.1,
+    ))
     (c.read.ensures.besides.learns.reaches (c.in-Ok.ensures.seeks.same_tells ∙ told))
 
 pub returns-in-Ok-clause-content : goal.returns-in-Ok-clause-content
@@ -52,5 +57,6 @@ returns-in-Ok-clause-cause g c = λ told steady well.
     let seek = c.in-Ok.ensures.seeks in
     let read = c.read.ensures.reads in
     let at = (seek.moves told steady).1 ∙ ap (λ n. from_place n (armored_content c.args.reader.now)) (seek.leads told) in
-    IfErr-weaker c.read.result _ _ (λ e cause memory quiet. absurd (sound (armored_content c.args.reader.now) (armored_rest c.seek.new.self) c.args.place well at
+    IfErr-weaker c.read.result _ _ (λ e cause memory quiet.
+    absurd (sound (armored_content c.args.reader.now) (armored_rest c.seek.new.self) c.args.place well at
     (cause memory (quiet_from seek.no_fewer_faults read.no_fewer_faults quiet)))) (read.cause (seek.same_tells ∙ told))

@@ -14,7 +14,8 @@ use Rattle.age_examples.specs.Own.{OwnWraps, OwnAsks, own_stanza, own_wrapped, o
 use Rattle.age_examples.proofs.own.own_pair.Goals as goal
 
 passed_by : (tag args body : Bool) (bytes : List ℕ) → tag ≢ true
-    → ◌≡◌ {A = UnwrapAnswer} (if tag then (if args then (if body then Some (Ok bytes) else Some (Err InvalidHeader)) else Some (Err InvalidHeader)) else None) None
+    → ◌≡◌ {A = UnwrapAnswer} (if tag then (if args then (if body then Some (Ok bytes) else Some (Err InvalidHeader)) else Some
+    (Err InvalidHeader)) else None) None
 passed_by true args body bytes other = absurd (other refl)
 passed_by false args body bytes other = refl
 

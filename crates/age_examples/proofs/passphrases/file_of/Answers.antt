@@ -20,6 +20,7 @@ returns-clause-made g c =
     subst (λ file. IsWhole seal_of prepared plain file) (sym is) (record {
       bytes = bytes;
       within = c.in_ok-file.ensures.within _ _ _ _ started.starts.made taken;
+      text = refl;
       is_file = started.is_file plain;
       carries = c.files_carry_themselves.ensures _ _ _ text (started.bytes plain bytes) (started.is_file plain);
     })
@@ -36,4 +37,5 @@ returns-in_err-write_all-clause-refused g c =
 pub returns-in_err-file-clause-refused : goal.returns-in_err-file-clause-refused
 returns-in_err-file-clause-refused g c =
     of_error _ _ _ c.from_residual-in_err-file.ensures.1
-    (unfinished _ _ _ c.in_ok-writer.ensures.starts.made _ c.write_all.new.writer c.in_ok-write_all.ensures.writes.narrows _ c.in_err-file.ensures.why)
+    (unfinished _ _ _ c.in_ok-writer.ensures.starts.made _ c.write_all.new.writer c.in_ok-write_all.ensures.writes.narrows _
+    c.in_err-file.ensures.why)

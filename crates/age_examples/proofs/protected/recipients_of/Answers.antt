@@ -20,7 +20,8 @@ pub returns-in_err-made-clause-refused : goal.returns-in_err-made-clause-refused
 returns-in_err-made-clause-refused g c =
     let (front, opens, made) = c.in_err-made.ensures in
     of_error _ _ _ c.from_residual.ensures.1
-    (no_front g.R.Read _ c.in_err-made.field-0.0 (λ result. IsMadeOf result None c.args.callbacks 18 None (Err c.in_err-made.field-0.0)) (λ other same. same) (λ d never. never) front opens made)
+    (no_front g.R.Read _ c.in_err-made.field-0.0 (λ result. IsMadeOf result None c.args.callbacks 18 None (Err c.in_err-made.field-0.0))
+    (λ other same. same) (λ d never. never) front opens made)
 
 pub returns-in_default-clause-none : goal.returns-in_default-clause-none
 returns-in_default-clause-none g c = λ told is_none.

@@ -23,10 +23,12 @@ loop-index-preserved g c =
     record {
       same = same-later c.args.records.now c.loop-index.records c.get.new.self before.same get.same;
       answered = λ written told is quiet.
-          let answer = answer-is c.get.result (slice_get written index) (IsQuiet (faults_of (reader_of c.loop-index.records)) (faults_of (reader_of c.get.new.self)))
+          let answer = answer-is c.get.result (slice_get written index)
+          (IsQuiet (faults_of (reader_of c.loop-index.records)) (faults_of (reader_of c.get.new.self)))
           (quiet_from first.faults get.same.reader.faults quiet) (get.written written (first.tells ∙ told) (first.content told ∙ is)) in
           let all = answered-more written (take i calls) c.loop-index.answers.items index c.get.result
           (before.answered written told is (quiet-before first.faults get.same.reader.faults quiet)) answer in
           subst (λ answers. Answered written (take (i + 1) calls) answers) (sym c.in_ok-push.ensures.items)
-          (subst (λ xs. Answered written xs (c.loop-index.answers.items ++ c.get.result ∷ [])) (sym (take_more calls i 0 c.loop-index-test.true)) all);
+          (subst (λ xs. Answered written xs (c.loop-index.answers.items ++ c.get.result ∷ []))
+          (sym (take_more calls i 0 c.loop-index-test.true)) all);
     }

@@ -30,12 +30,14 @@ returns-in-Ok-finish-clause-made g c =
       | inr fits ↦
           let bytes = written.bytes fits in
           let is : c.in-Ok-finish.file.items ≡ text =
-          rw c.new.ensures.items at (started.file refl plain c.write_records.new.writer (Ok c.in-Ok-finish.file) ((written.writes fits).writes.takes_all refl) (c.in-Ok-finish.ensures.ok refl)) in (
+          rw c.new.ensures.items at (started.file refl plain c.write_records.new.writer (Ok c.in-Ok-finish.file)
+          ((written.writes fits).writes.takes_all refl) (c.in-Ok-finish.ensures.ok refl)) in (
             prepared,
             c.in-Ok.ensures,
             subst (λ file. IsWhole seal_of prepared plain file) (sym is) (record {
               bytes = bytes;
               within = fits;
+              text = refl;
               is_file = started.is_file plain;
               carries = c.files_carry_themselves.ensures _ _ _ text (started.bytes plain bytes) (started.is_file plain);
             }),

@@ -15,5 +15,6 @@ returns-clause-made g c =
         bytes = c.in-Ok-write_records.ensures.bytes fits;
         within = fits;
       })
-          (c.finish.ensures.ok refl c.in-Ok.payload c.args.key text c.new.result c.in-Ok.ensures.made ((c.in-Ok-write_records.ensures.writes fits).writes.takes_all refl))
+          (c.finish.ensures.ok refl c.in-Ok.payload c.args.key text c.new.result c.in-Ok.ensures.made
+          ((c.in-Ok-write_records.ensures.writes fits).writes.takes_all refl))
     ]

@@ -18,7 +18,8 @@ returns-else-count-eq0-clause-found g c = λ told has there.
     let seek = c.in-Ok.ensures in
     let apart = before_end (payload_of reader) c.args.place (place_of reader) has in
     let leads : c.in-Ok.field-0 ≡ c.args.place = seek.seeks.leads told in
-    c.in-Ok-read.ensures.opens.held (seek.chunks.finds told apart (subst (λ n. HasChunk reader (n / 65536)) (sym leads) there)) ∙ seek.opens.end told apart
+    c.in-Ok-read.ensures.opens.held (seek.chunks.finds told apart (subst (λ n. HasChunk reader (n / 65536)) (sym leads) there))
+    ∙ seek.opens.end told apart
 
 pub returns-else-count-eq0-clause-byte : goal.returns-else-count-eq0-clause-byte
 returns-else-count-eq0-clause-byte g c = λ told steady.
@@ -30,7 +31,8 @@ returns-else-count-eq0-clause-byte g c = λ told steady.
     let at = (seek.moves told steady).1 ∙ ap (λ n. from_place n content) (seek.leads told) in
     let one : length room ≡ 1 = omega (arith, c.read.auto.buf) in
     found content.bytes c.args.place c.in-Ok-read.count room
-    (looked content (plain_rest_of c.seek.new.self) (plain_rest_of c.read.new.self) c.args.place c.in-Ok-read.count room one read.count at (read.bytes told_then) (read.end told_then))
+    (looked content (plain_rest_of c.seek.new.self)
+    (plain_rest_of c.read.new.self) c.args.place c.in-Ok-read.count room one read.count at (read.bytes told_then) (read.end told_then))
     c.if-count-eq0.false one
 
 pub returns-in-Err-clause-why : goal.returns-in-Err-clause-why
@@ -54,7 +56,8 @@ returns-then-count-eq0-clause-why g c = inr (inr (
       let at = (seek.moves told steady).1 ∙ ap (λ n. from_place n content) (seek.leads told) in
       let one : length room ≡ 1 = omega (arith, c.read.auto.buf) in
       missing content.bytes c.args.place c.in-Ok-read.count room
-      (looked content (plain_rest_of c.seek.new.self) (plain_rest_of c.read.new.self) c.args.place c.in-Ok-read.count room one read.count at (read.bytes told_then) (read.end told_then))
+      (looked content (plain_rest_of c.seek.new.self)
+      (plain_rest_of c.read.new.self) c.args.place c.in-Ok-read.count room one read.count at (read.bytes told_then) (read.end told_then))
       c.if-count-eq0.true,
 ))
 
@@ -85,5 +88,6 @@ returns-then-count-eq0-clause-cause g c = λ told steady well memory quiet.
     let at = (seek.moves told steady).1 ∙ ap (λ n. from_place n content) (seek.leads told) in
     let one : length room ≡ 1 = omega (arith, c.read.auto.buf) in
     missing content.bytes c.args.place c.in-Ok-read.count room
-    (looked content (plain_rest_of c.seek.new.self) (plain_rest_of c.read.new.self) c.args.place c.in-Ok-read.count room one read.count at (read.bytes told_then) (read.end told_then))
+    (looked content (plain_rest_of c.seek.new.self)
+    (plain_rest_of c.read.new.self) c.args.place c.in-Ok-read.count room one read.count at (read.bytes told_then) (read.end told_then))
     c.if-count-eq0.true

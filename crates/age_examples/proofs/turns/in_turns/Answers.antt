@@ -13,7 +13,8 @@ turns-init g c =
     record {
       same_tells = two.tells ∙ one.tells;
       same_payload = λ told. two.payload (told_two told) ∙ one.payload told;
-      first = λ told has. two.keeps_last (told_two told) (subst (λ p. HasPlace p c.args.second) (sym (one.payload told)) has) (c.args.first / 65536) (one.uses told);
+      first = λ told has. two.keeps_last (told_two told) (subst (λ p. HasPlace p c.args.second) (sym (one.payload told)) has)
+          (c.args.first / 65536) (one.uses told);
       second = λ told. two.uses (told_two told);
       same_steady = two.steady ∙ one.steady;
       more_faults = omega (arith, one.faults, two.faults);
@@ -39,7 +40,8 @@ turns-preserved g c =
     record {
       same_tells = two.tells ∙ one.tells ∙ kept.same_tells;
       same_payload = λ told. two.payload (told_two told) ∙ same told;
-      first = λ told has. two.keeps_last (told_two told) (subst (λ p. HasPlace p c.args.second) (sym (same told)) has) (c.args.first / 65536) (one.uses (told_one told));
+      first = λ told has. two.keeps_last (told_two told) (subst (λ p. HasPlace p c.args.second) (sym (same told)) has) (c.args.first / 65536)
+          (one.uses (told_one told));
       second = λ told. two.uses (told_two told);
       same_steady = two.steady ∙ one.steady ∙ kept.same_steady;
       more_faults = omega (arith, kept.more_faults, one.faults, two.faults);
@@ -48,7 +50,8 @@ turns-preserved g c =
           let content = kept.same_content told in
           let between = one.content (told_one told) ∙ content in (
             subst (λ s. slice_get s.bytes c.args.first ≡ Some c.in_ok-one-2.one) content (one.byte (told_one told) (kept.same_steady ∙ steady)),
-            subst (λ s. slice_get s.bytes c.args.second ≡ Some c.in_ok-other-2.other) between (two.byte (told_two told) (one.steady ∙ kept.same_steady ∙ steady)),
+            subst (λ s. slice_get s.bytes c.args.second ≡ Some c.in_ok-other-2.other) between
+                (two.byte (told_two told) (one.steady ∙ kept.same_steady ∙ steady)),
           );
       narrows = λ e why. kept.narrows e (one.narrows e (two.narrows e why));
       opened = λ told first second.
@@ -87,7 +90,8 @@ returns-in_err-one-2-clause-why g c =
       | inr (inl why) ↦ inr (inl (kept.narrows _ why))
       | inr (inr end) ↦ inr (inr (
         end.0,
-        λ told steady. inl (subst (λ s. slice_get s.bytes c.args.first ≡ None) (kept.same_content told) (end.1 (kept.same_tells ∙ told) (kept.same_steady ∙ steady))),
+        λ told steady. inl (subst (λ s. slice_get s.bytes c.args.first ≡ None) (kept.same_content told)
+            (end.1 (kept.same_tells ∙ told) (kept.same_steady ∙ steady))),
       ))
     ])
 
@@ -95,7 +99,8 @@ pub returns-in_err-other-2-clause-why : goal.returns-in_err-other-2-clause-why
 returns-in_err-other-2-clause-why g c =
     let kept = c.turns.invariant in
     let one = c.in_ok-one-2.ensures in
-    of_error _ c.from_residual-in_err-other-2.result c.in_err-other-2.field-0.0 c.from_residual-in_err-other-2.ensures.1 (elim c.in_err-other-2.ensures.why [
+    of_error _ c.from_residual-in_err-other-2.result c.in_err-other-2.field-0.0 c.from_residual-in_err-other-2.ensures.1
+    (elim c.in_err-other-2.ensures.why [
       | inl outside ↦ inl outside
       | inr (inl why) ↦ inr (inl (kept.narrows _ (one.narrows _ why)))
       | inr (inr end) ↦ inr (inr (
@@ -126,7 +131,8 @@ returns-in_err-one-2-clause-cause g c = λ told steady well.
     let same = kept.same_content told in
     of_error _ c.from_residual-in_err-one-2.result c.in_err-one-2.field-0.0 c.from_residual-in_err-one-2.ensures.1
     (λ memory quiet. inl (subst (λ s. slice_get s.bytes c.args.first ≡ None) same
-    (one.cause (kept.same_tells ∙ told) (kept.same_steady ∙ steady) (ap (λ s. s.ends_well) same ∙ well) memory (quiet_from kept.more_faults one.faults quiet))))
+    (one.cause (kept.same_tells ∙ told) (kept.same_steady ∙ steady) (ap (λ s. s.ends_well) same ∙ well) memory
+    (quiet_from kept.more_faults one.faults quiet))))
 
 pub returns-in_err-other-2-clause-cause : goal.returns-in_err-other-2-clause-cause
 returns-in_err-other-2-clause-cause g c = λ told steady well.

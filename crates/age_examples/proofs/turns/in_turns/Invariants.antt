@@ -16,7 +16,8 @@ invariant-turns g l = record {
   bytes : IsTrue (tells_of l.fn.reader) → IsTrue (steady_of l.fn.reader) →
       (slice_get (content_of l.fn.reader).bytes l.first ≡ Some l.one) × (slice_get (content_of l.fn.reader).bytes l.second ≡ Some l.other);
   narrows : AddsNoReason (λ r. refuses_of r) l.fn.reader l.reader;
-  opened : IsTrue (tells_of l.fn.reader) → HasPlace (payload_of l.fn.reader) l.first → HasPlace (payload_of l.fn.reader) l.second → opens_of l.reader ≤ opens_of l.fn.reader + 4;
+  opened : IsTrue (tells_of l.fn.reader) → HasPlace (payload_of l.fn.reader) l.first → HasPlace (payload_of l.fn.reader) l.second
+      → opens_of l.reader ≤ opens_of l.fn.reader + 4;
 }
 
 abbrev pub decreases-turns : goal.decreases-turns

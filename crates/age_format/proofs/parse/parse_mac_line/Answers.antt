@@ -11,9 +11,11 @@ pub returns-in_default-2 : goal.returns-in_default-2
 returns-in_default-2 c = mac_line_none c.args.text.now c.in-Some.rest.now c.in-Some.ensures (rw c.in_default-2.is at c.in_ok-bytes.ensures.found)
 
 pub returns-then-len-ne32 : goal.returns-then-len-ne32
-returns-then-len-ne32 c = mac_line_long c.args.text.now c.in-Some.rest.now _ c.in-Some.ensures (rw c.in-Some-2.is at c.in_ok-bytes.ensures.found) (search rules)
+returns-then-len-ne32 c = mac_line_long c.args.text.now c.in-Some.rest.now _ c.in-Some.ensures (rw c.in-Some-2.is at c.in_ok-bytes.ensures.found)
+    (search rules)
 
 pub returns : goal.returns
 returns c =
-    let found = mac_line_some c.args.text.now c.in-Some.rest.now _ c.in-Some.ensures (rw c.in-Some-2.is at c.in_ok-bytes.ensures.found) (search rules) in
+    let found = mac_line_some c.args.text.now c.in-Some.rest.now _ c.in-Some.ensures (rw c.in-Some-2.is at c.in_ok-bytes.ensures.found)
+    (search rules) in
     subst (λ m. AreBytesOf 32 m × (mac_line m ≡ c.args.text.now)) (sym (c.copy_from_slice.ensures.after ∙ c.as_slice.ensures.value)) found

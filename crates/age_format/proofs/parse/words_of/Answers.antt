@@ -17,9 +17,11 @@ pub returns-then-not-is_string : goal.returns-then-not-is_string
 returns-then-not-is_string c =
     words_none (λ x. x.now) c.deref-part-items.result.now c.loop-part.part-index _ c.args.text.now
     (ap (map (λ x. x.now)) c.deref-part-items.ensures.value ∙ c.in_ok-parts.ensures) (omega arith)
-    (λ string. absurd_bool c.is_string.result (c.is_string.ensures.exactly.1 (subst IsString (sym c.in-Ok.ensures.cases.0) string)) c.if-not-is_string.true)
+    (λ string. absurd_bool c.is_string.result
+    (c.is_string.ensures.exactly.1 (subst IsString (sym c.in-Ok.ensures.cases.0) string)) c.if-not-is_string.true)
 
 pub returns : goal.returns
 returns c =
     words_done (λ x. x.now) (λ a. string_bytes a) c.deref-part-items.result.now c.loop-part.words.items c.loop-part.part-index c.args.text.now
-    (ap (map (λ x. x.now)) c.deref-part-items.ensures.value ∙ c.in_ok-parts.ensures) (omega arith) c.loop-part.invariant.same c.loop-part.invariant.strings
+    (ap (map (λ x. x.now)) c.deref-part-items.ensures.value ∙ c.in_ok-parts.ensures)
+    (omega arith) c.loop-part.invariant.same c.loop-part.invariant.strings

@@ -20,7 +20,8 @@ returns-in-Bad-clause-refused g c = λ told.
     let decides = (rw c.in-Bad.is at c.in_ok-more.ensures) in (
       _,
       took_verdict c.bytes.header.legacy (g.R.Read.rest c.args.reader.now) _ _ _ _ _ c.bytes.header.text c.in_ok-byte.byte Bad before.legacy
-          (before.so_far told) (c.in_ok-byte.ensures.byte here) (before.moved told) (c.in_ok-byte.ensures.moves here) c.text-size.ensures.undecided decides,
+          (before.so_far told) (c.in_ok-byte.ensures.byte here) (before.moved told)
+          (c.in_ok-byte.ensures.moves here) c.text-size.ensures.undecided decides,
     )
 
 pub returns-in-UnknownVersion-clause-refused : goal.returns-in-UnknownVersion-clause-refused
@@ -29,8 +30,10 @@ returns-in-UnknownVersion-clause-refused g c = λ told.
     let here = before.same.tells ∙ told in
     let decides = (rw c.in-UnknownVersion.is at c.in_ok-more.ensures) in (
       _,
-      took_verdict c.bytes.header.legacy (g.R.Read.rest c.args.reader.now) _ _ _ _ _ c.bytes.header.text c.in_ok-byte.byte UnknownVersion before.legacy
-          (before.so_far told) (c.in_ok-byte.ensures.byte here) (before.moved told) (c.in_ok-byte.ensures.moves here) c.text-size.ensures.undecided decides,
+      took_verdict c.bytes.header.legacy (g.R.Read.rest c.args.reader.now) _ _ _ _ _ c.bytes.header.text c.in_ok-byte.byte UnknownVersion
+          before.legacy
+          (before.so_far told) (c.in_ok-byte.ensures.byte here) (before.moved told)
+          (c.in_ok-byte.ensures.moves here) c.text-size.ensures.undecided decides,
     )
 
 pub returns-in-Header-clause-header : goal.returns-in-Header-clause-header
@@ -40,7 +43,8 @@ returns-in-Header-clause-header g c = λ told.
     let decides = (rw c.in-Header.is at c.in_ok-more.ensures) in
     let took = took_verdict c.bytes.header.legacy (g.R.Read.rest c.args.reader.now) _ _ _ _ _ c.bytes.header.text c.in_ok-byte.byte
     (Header c.in-Header.stanzas.items c.in-Header.mac) before.legacy
-    (before.so_far told) (c.in_ok-byte.ensures.byte here) (before.moved told) (c.in_ok-byte.ensures.moves here) c.text-size.ensures.undecided decides.1 in
+    (before.so_far told) (c.in_ok-byte.ensures.byte here) (before.moved told)
+    (c.in_ok-byte.ensures.moves here) c.text-size.ensures.undecided decides.1 in
     subst (λ t. TookVerdict c.args.legacy (g.R.Read.rest c.args.reader.now) (g.R.Read.rest c.next_byte.new.reader) (g.R.Read.place c.args.reader.now)
     (g.R.Read.place c.next_byte.new.reader) t (Header c.in-Header.stanzas.items c.in-Header.mac)) (sym decides.0) took
 
@@ -57,7 +61,8 @@ returns-in_err-byte-clause-refused g c = λ told.
     let here = before.same.tells ∙ told in
     let failed = c.in_err-byte.ensures in
     let e = c.in_err-byte.field-0.0 in
-    let refused = reader_refused c.bytes.header.legacy (read.faults c.args.reader.now) (read.faults c.bytes.reader) (read.faults c.next_byte.new.reader)
+    let refused = reader_refused c.bytes.header.legacy (read.faults c.args.reader.now) (read.faults c.bytes.reader)
+    (read.faults c.next_byte.new.reader)
     (read.rest c.args.reader.now) (read.rest c.bytes.reader) (read.rest c.next_byte.new.reader)
     (read.place c.args.reader.now) (read.place c.bytes.reader) (read.place c.next_byte.new.reader) c.bytes.header.text e before.legacy
     (before.so_far told) (failed.left here) (before.moved told) (failed.stays here) c.text-size.ensures.undecided
@@ -98,7 +103,8 @@ returns-in_err-extend-clause-refused g c = λ told.
     (before.so_far told) (c.in_ok-byte.ensures.byte here) (before.moved told) (c.in_ok-byte.ensures.moves here) c.text-size.ensures.undecided in
     let refuses = λ (x : DecryptRefusal). RefusesHeader c.args.legacy (read.faults c.args.reader.now) (read.faults c.next_byte.new.reader)
     (read.rest c.args.reader.now) (read.rest c.next_byte.new.reader) (read.place c.args.reader.now) (read.place c.next_byte.new.reader) x in
-    of_error (λ x. refuses (decrypt_refusal x)) c.from_residual-in_err-extend.result decrypt.OutOfMemory c.from_residual-in_err-extend.ensures.1 ran_out
+    of_error (λ x. refuses (decrypt_refusal x)) c.from_residual-in_err-extend.result decrypt.OutOfMemory c.from_residual-in_err-extend.ensures.1
+    ran_out
 
 pub bytes-preserved : goal.bytes-preserved
 bytes-preserved g c =

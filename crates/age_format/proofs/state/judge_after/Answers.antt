@@ -11,4 +11,5 @@ returns-in-Some c = λ text h lacks.
 pub returns-in-None : goal.returns-in-None
 returns-in-None c = λ text h lacks.
     let (middle, some, texts, spelled) = h.read in
-    bad_after c.args.legacy text c.args.next.now middle c.args.done.items spelled lacks h.goes (rw c.in_default.is at c.in_ok-stanza.ensures) (rw c.in-None.is at c.in_ok-mac.ensures)
+    bad_after c.args.legacy text c.args.next.now middle c.args.done.items spelled lacks h.goes (rw c.in_default.is at c.in_ok-stanza.ensures)
+    (rw c.in-None.is at c.in_ok-mac.ensures)

@@ -24,7 +24,10 @@ returns-then-len-eq48 c = λ text h lacks none.
     let d = c.args.done.items in
     let r = goes_on_in_body c.args.legacy text c.args.next.now c.in-Some.bytes.items s d h.read lacks none h.goes found.0 found.1 (search rules) in
     let e : grown s c.in-Some.bytes.items ≡ c.extend_body.new.self = ap (grown s) (sym c.as_slice.ensures.value) ∙ sym c.in_ok-extend_body.ensures in
-    record { read = subst (λ z. IsInBody c.args.legacy z (text ++ line c.args.next.now) d) e r.0; goes = λ more ss m k. subst (λ z. IsBodyAndTail c.args.legacy z more d ss m) e (r.1 more ss m k) }
+    record {
+      read = subst (λ z. IsInBody c.args.legacy z (text ++ line c.args.next.now) d) e r.0;
+      goes = λ more ss m k. subst (λ z. IsBodyAndTail c.args.legacy z more d ss m) e (r.1 more ss m k);
+    }
 
 pub returns : goal.returns
 returns c = λ text h lacks none.

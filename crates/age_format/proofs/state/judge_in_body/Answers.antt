@@ -17,7 +17,8 @@ returns-in-Some c =
     (let r = closes_legacy c.args.legacy c.if-legacy.true text next c.in-Some._rest.now s d at.read c.in-Some.ensures lacks at.goes in
     p text (record {
       read = subst (λ x. IsAfterBody c.args.legacy text x) e r.0;
-      goes = λ more ss m k. subst (λ x. (others : List StanzaValue) × (ss ≡ x ++ others) × IsTail c.args.legacy (line next ++ more) others m) e (r.1 more ss m k);
+      goes = λ more ss m k. subst (λ x. (others : List StanzaValue) × (ss ≡ x ++ others) × IsTail c.args.legacy (line next ++ more) others m) e
+          (r.1 more ss m k);
     }) lacks)) c.judge_after.ensures
 
 pub returns : goal.returns

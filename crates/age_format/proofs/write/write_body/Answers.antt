@@ -23,6 +23,7 @@ returns-clause-took g c =
     let (done, took, is) = c.loop-rest.invariant in
     let piece = line (columns c.loop-rest.rest.now) in
     on_ok_weaker c.write_columns-2.result
-    (λ last. subst (λ x. g.T.Sink.took c.args.out.now x c.write_columns-2.new.out) (body_end done (done ++ piece) c.loop-rest.rest.now _ is (omega arith) refl)
+    (λ last. subst (λ x. g.T.Sink.took c.args.out.now x c.write_columns-2.new.out)
+    (body_end done (done ++ piece) c.loop-rest.rest.now _ is (omega arith) refl)
     (g.met.T.Sink.joins _ _ _ done piece took last))
     c.write_columns-2.ensures.took

@@ -22,7 +22,8 @@ loop-stanza-preserved g c =
 pub returns-clause-took : goal.returns-clause-took
 returns-clause-took g c =
     let all = take_all c.loop-stanza.stanza-index c.args.stanzas.now (omega arith) in
-    let took = subst (λ xs. g.T.Sink.took c.args.out.now (line version_line ++ flat_map stanza_text xs) c.loop-stanza.out) all c.loop-stanza.invariant.1 in
+    let took = subst (λ xs. g.T.Sink.took c.args.out.now (line version_line ++ flat_map stanza_text xs) c.loop-stanza.out) all
+    c.loop-stanza.invariant.1 in
     on_ok_weaker c.take-2.result
     (λ end. subst (λ x. g.T.Sink.took c.args.out.now x c.take-2.new.self) (front_ends c.args.stanzas.now)
     (g.met.T.Sink.joins _ _ _ _ (codes "---") took end))

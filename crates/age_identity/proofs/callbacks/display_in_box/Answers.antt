@@ -1,5 +1,5 @@
 use Rattle.std.proofs.Common.{rules}
-use Rattle.age_format.specs.Boxed.{changes_at}
+use Rattle.age_format.specs.BoxedLemmas.{changes_at}
 use Rattle.age_identity.proofs.callbacks.display_in_box.Goals as goal
 
 pub returns : goal.returns

@@ -1,9 +1,10 @@
 use Rattle.std.proofs.Common.{rules, string_bytes}
 use Rattle.std.specs.Option.{option_map}
-use Rattle.age_format.specs.Boxed.{changes_at}
+use Rattle.age_format.specs.BoxedLemmas.{changes_at}
 use Rattle.age_identity.proofs.callbacks.string_in_box.Goals as goal
 
 pub returns : goal.returns
 returns g c =
-    changes_at (λ i before after. (goal.Callbacks-dyn g (i, before)).gives_string before c.args.description.now (option_map (λ text. string_bytes text) c.request_public_string.result) after)
+    changes_at (λ i before after. (goal.Callbacks-dyn g (i, before)).gives_string before c.args.description.now
+    (option_map (λ text. string_bytes text) c.request_public_string.result) after)
     c.args.callbacks.now _ _ _ (search rules) c.request_public_string.ensures

@@ -11,5 +11,6 @@ returns-in-None g c = λ names h.
 pub returns-in-Some : goal.returns-in-Some
 returns-in-Some g c = λ names h.
     least_more c.lesser.result.now c.in-Some.name.now c.plugin-in-Some.result.now names _ (rw c.in-Some.is at h)
-    (one_name names c.plugin-in-Some.result.now (entry_of c.args.entry.now) c.in-Plugin.key (ap (λ e. entry_of e) c.in-Plugin.is) c.plugin-in-Some.ensures)
+    (one_name names c.plugin-in-Some.result.now (entry_of c.args.entry.now) c.in-Plugin.key
+    (ap (λ e. entry_of e) c.in-Plugin.is) c.plugin-in-Some.ensures)
     c.lesser.ensures.first c.lesser.ensures.second c.lesser.ensures.one

@@ -9,5 +9,6 @@ returns-in-Passed g c = λ before line good judged. entries_passed before line _
 
 pub returns-in_ok-push-in-Found : goal.returns-in_ok-push-in-Found
 returns-in_ok-push-in-Found g c = λ before line good judged.
-    subst (AreEntries (before ++ line ∷ [])) (sym (mapped_more c.args.entries.items c.push.new.self.items c.in-Found.entry c.in_ok-push-in-Found.ensures.items))
+    subst (AreEntries (before ++ line ∷ []))
+    (sym (mapped_more c.args.entries.items c.push.new.self.items c.in-Found.entry c.in_ok-push-in-Found.ensures.items))
     (entries_found before line _ (entry_of c.in-Found.entry) good (rw c.in-Found.is at judged))

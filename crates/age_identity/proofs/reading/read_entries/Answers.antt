@@ -13,7 +13,8 @@ returns-then-count-eq0 g c =
     let loop = c.reads.invariant in
     let within = gave_within (is_past c.read_some.new.reader) c.in-Ok.count _ (λ past. (c.in-Ok.ensures.meets past).answer) in
     let short : length loop.text < 2 ^ 63 = omega (arith, loop.counted, c.requires.few) in
-    read_ended g.R.Read c.args.reader.now c.reads.reader c.read_some.new.reader c.reads.parser loop _ c.read_some.new.buf c.in-Ok.count c.finish.result
+    read_ended g.R.Read c.args.reader.now c.reads.reader c.read_some.new.reader c.reads.parser loop _ c.read_some.new.buf c.in-Ok.count
+    c.finish.result
     c.if-count-eq0.true (c.in-Ok.ensures.inner within) (c.finish.ensures loop.text short loop.here)
 
 pub returns-in-Err-push_all : goal.returns-in-Err-push_all
@@ -21,9 +22,11 @@ returns-in-Err-push_all g c =
     let loop = c.reads.invariant in
     let within = gave_within (is_past c.read_some.new.reader) c.in-Ok.count _ (λ past. (c.in-Ok.ensures.meets past).answer) in
     let size = length-take c.in-Ok.count c.read_some.new.buf in
-    let short : length loop.text + length (take c.in-Ok.count c.read_some.new.buf) < 2 ^ 63 = omega (arith, loop.counted, c.requires.few, size, c.if-count-eq0.array_long) in
+    let short : length loop.text + length (take c.in-Ok.count c.read_some.new.buf) < 2 ^ 63 =
+    omega (arith, loop.counted, c.requires.few, size, c.if-count-eq0.array_long) in
     let bad = c.in-Err-push_all.ensures loop.text short loop.here in
-    read_bad g.R.Read c.args.reader.now c.reads.reader c.read_some.new.reader c.reads.parser loop _ c.read_some.new.buf bad.0 bad.1 c.in-Ok.count c.in-Err-push_all.e
+    read_bad g.R.Read c.args.reader.now c.reads.reader c.read_some.new.reader c.reads.parser loop _ c.read_some.new.buf bad.0 bad.1 c.in-Ok.count
+    c.in-Err-push_all.e
     c.in-Ok.ensures.counts (c.in-Ok.ensures.inner within) bad.2 bad.3
 
 pub reads-preserved : goal.reads-preserved
@@ -31,6 +34,8 @@ reads-preserved g c =
     let loop = c.reads.invariant in
     let within = gave_within (is_past c.read_some.new.reader) c.in-Ok.count _ (λ past. (c.in-Ok.ensures.meets past).answer) in
     let size = length-take c.in-Ok.count c.read_some.new.buf in
-    let short : length loop.text + length (take c.in-Ok.count c.read_some.new.buf) < 2 ^ 63 = omega (arith, loop.counted, c.requires.few, size, c.if-count-eq0.array_long) in
-    read_more g.R.Read c.args.reader.now c.reads.reader c.read_some.new.reader c.reads.parser loop c.in-Ok-push_all.next c.read_some.new.buf c.in-Ok.count within
+    let short : length loop.text + length (take c.in-Ok.count c.read_some.new.buf) < 2 ^ 63 =
+    omega (arith, loop.counted, c.requires.few, size, c.if-count-eq0.array_long) in
+    read_more g.R.Read c.args.reader.now c.reads.reader c.read_some.new.reader c.reads.parser loop c.in-Ok-push_all.next c.read_some.new.buf
+    c.in-Ok.count within
     c.in-Ok.ensures.counts (c.in-Ok.ensures.inner within) (c.in-Ok-push_all.ensures loop.text short loop.here)

@@ -9,5 +9,6 @@ returns-in-loop-of-retried-clause-inner g c = λ within.
       part = given.part;
       some = given.some;
       same = given.same;
-      reads = waits_ended g.R.Read c.args.reader.now.inner c.loop-of-retried.reader.inner c.read.new.self.inner c.loop-of-retried._try c.loop-of-retried.invariant.calls_made given.part c.read.result (search rules) given.reads;
+      reads = waits_ended g.R.Read c.args.reader.now.inner c.loop-of-retried.reader.inner c.read.new.self.inner c.loop-of-retried._try
+          c.loop-of-retried.invariant.calls_made given.part c.read.result (search rules) given.reads;
     }

@@ -40,7 +40,8 @@ loop-piece-init g c =
       writer_faults = omega arith;
       pieces = λ told. omega arith;
       room = omega (arith, room);
-      copied = copied-none g.R.Read g.W.Write.tells g.W.Write.appended c.args.reader.now c.args.writer.now (g.met.W.Write.appends_nothing c.args.writer.now);
+      copied = copied-none g.R.Read g.W.Write.tells g.W.Write.appended c.args.reader.now c.args.writer.now
+          (g.met.W.Write.appends_nothing c.args.writer.now);
     }
 
 pub loop-piece-preserved : goal.loop-piece-preserved
@@ -65,7 +66,13 @@ loop-piece-preserved g c =
                 (rw filled at writes.narrows),
           );
       writer_faults = omega (arith, before.writer_faults, writes.no_fewer_faults);
-      pieces = λ reader_told. omega (arith, before.pieces reader_told, reads.moves (before.copied.gives.same_tells ∙ reader_told), c.if-count-eq0.false);
+      pieces = λ reader_told. omega (
+        arith,
+        before.pieces reader_told,
+        reads.moves
+            (before.copied.gives.same_tells ∙ reader_told),
+        c.if-count-eq0.false,
+      );
       room = let same = rw filled at c.in_ok-write_front.ensures.size in omega (arith, same, size, before.room);
       copied =
           copied-more read g.W.Write.tells g.W.Write.appended g.met.W.Write.joins
@@ -123,7 +130,8 @@ returns-in_err-write_front g c =
     let came = reads.bytes (before.copied.gives.same_tells ∙ told) in
     let fewer : given + length piece ≤ length (read.rest c.args.reader.now).bytes
     = omega (arith, joined told, ap length came.bytes, length-append piece (read.rest c.read_retrying.new.reader).bytes) in
-    retried-more g.W.Write.refuses g.met.W.Write.refuses_more c.args.writer.now (given + length piece) (length (read.rest c.args.reader.now).bytes) e fewer
+    retried-more g.W.Write.refuses g.met.W.Write.refuses_more c.args.writer.now (given + length piece)
+    (length (read.rest c.args.reader.now).bytes) e fewer
     (narrows (length piece) e why) in
     record {
       tells = writes.same_tells ∙ before.writer_tells;
@@ -134,7 +142,8 @@ returns-in_err-write_front g c =
           c.read_retrying.new.buf c.in_ok-count.count (took writer_told).0 before.copied reads told writer_told (took writer_told).2;
       stands = OnOk-refused _ _ refused;
       left = OnErr-of _ (left-by-write read g.W.Write.tells g.W.Write.appended (λ _. ⊤) g.met.W.Write.joins
-          before.copied.front c.args.reader.now c.loop-piece.reader c.read_retrying.new.reader c.args.writer.now c.loop-piece.writer c.write_front.new.writer
+          before.copied.front c.args.reader.now c.loop-piece.reader c.read_retrying.new.reader c.args.writer.now c.loop-piece.writer
+          c.write_front.new.writer
           c.read_retrying.new.buf c.in_ok-count.count tt before.copied.gives before.copied.out reads took);
       device = of_error _ _ _ is (λ fault. inr (omega (arith, before.writer_faults, writes.device fault)));
       why = λ told well quiet. of_error _ _ _ is (inr (of_all told));
@@ -148,7 +157,8 @@ returns-then-count-eq0 g c =
     let before = c.loop-piece.invariant in
     let reads = c.in_ok-count.ensures.reads in
     let none : c.in_ok-count.count ≡ 0 = omega (arith, c.if-count-eq0.true) in
-    let some : 0 < length c.read_retrying.new.buf = omega (arith, c.read_retrying.auto.buf, c.deref_mut.ensures.len, c.loop-piece.room.ok.0, before.room) in
+    let some : 0 < length c.read_retrying.new.buf =
+    omega (arith, c.read_retrying.auto.buf, c.deref_mut.ensures.len, c.loop-piece.room.ok.0, before.room) in
     let clean = λ (told : IsTrue (g.R.Read.tells c.args.reader.now)). reads.end (before.copied.gives.same_tells ∙ told) none some in
     record {
       tells = before.writer_tells;

@@ -38,7 +38,8 @@ pieces-init g c =
       has_left = record { given = 0; joined = omega arith; narrows = narrows-same (Retried g.W.Write.refuses) c.args.writer.now };
       writer_faults = omega arith;
       room = omega (arith, room);
-      copied = part-none g.R.Read g.W.Write.tells g.W.Write.appended c.args.count c.args.reader.now c.args.writer.now (g.met.W.Write.appends_nothing c.args.writer.now);
+      copied = part-none g.R.Read g.W.Write.tells g.W.Write.appended c.args.count c.args.reader.now c.args.writer.now
+          (g.met.W.Write.appends_nothing c.args.writer.now);
     }
 
 pub pieces-preserved : goal.pieces-preserved

@@ -17,12 +17,14 @@ reads-preserved g c =
     let grown : c.extend_from_slice.new.self.items ≡ c.reads.got.items ++ take c.in-Ok.more c.read.new.buf = grind (arith, common_steps) in
     let longer : vec_len c.extend_from_slice.new.self ≡ vec_len c.reads.got + c.in-Ok.more = grind (arith, common_steps) in
     record {
-      same = same-later g.R.Read c.args.reader.now c.reads.reader c.read.new.self c.reads.invariant.same (same-read g.R.Read c.reads.reader c.read.new.self got);
+      same = same-later g.R.Read c.args.reader.now c.reads.reader c.read.new.self c.reads.invariant.same
+          (same-read g.R.Read c.reads.reader c.read.new.self got);
       most = grind (arith, common_steps, longer);
       gives =
           rw grown (gives-more g.R.Read.tells g.R.Read.steady g.R.Read.content g.R.Read.place g.R.Read.rest g.R.Read.faults g.R.Read.refuses
           c.args.reader.now c.reads.reader c.read.new.self c.reads.got.items c.read.new.buf c.in-Ok.more c.reads.invariant.gives got);
-      turns = turns-more g.R.Read.tells g.R.Read.steady g.R.Read.content g.R.Read.place g.R.Read.rest g.R.Read.faults g.R.Read.refuses g.R.Read.read_besides
+      turns = turns-more g.R.Read.tells g.R.Read.steady g.R.Read.content g.R.Read.place g.R.Read.rest g.R.Read.faults g.R.Read.refuses
+          g.R.Read.read_besides
           c.args.reader.now c.reads.reader c.read.new.self c.reads.got.items c.extend_from_slice.new.self.items _ c.read.new.buf c.in-Ok.more
           c.reads.invariant.turns got c.in-Ok.ensures.besides grown;
       so_far = λ told whole.
@@ -103,7 +105,8 @@ returns-clause-came g c =
                 c.args.reader.now c.reads.reader w.read.new.self c.reads.got.items w.read.new.buf 0 before.gives got);
             turns = turns-more r.tells r.steady r.content r.place r.rest r.faults r.refuses r.read_besides
                 c.args.reader.now c.reads.reader w.read.new.self c.reads.got.items c.reads.got.items _ w.read.new.buf 0 before.turns got own same;
-            end = λ told less. clean-after r.tells r.steady r.content r.place r.rest r.faults r.refuses c.reads.reader w.read.new.self w.read.new.buf got
+            end = λ told less. clean-after r.tells r.steady r.content r.place r.rest r.faults r.refuses c.reads.reader w.read.new.self
+                w.read.new.buf got
                 (before.same.tells ∙ told) (grind (arith, common_steps, w.reads-test.true));
             finds = λ less. (
               c.reads.reader,

@@ -11,8 +11,10 @@ invariant-reads g l =
     record {
       same : SameReader reader l.fn.reader l.reader;
       most : vec_len l.got ≤ l.count;
-      gives : GivesInAll reader.tells reader.steady reader.content reader.place reader.rest reader.faults reader.refuses l.fn.reader l.reader l.got.items;
-      turns : (n : ℕ) × ReadsInTurn reader.tells reader.steady reader.content reader.place reader.rest reader.faults reader.refuses reader.read_besides n l.fn.reader l.reader l.got.items;
+      gives : GivesInAll reader.tells reader.steady reader.content reader.place reader.rest reader.faults reader.refuses l.fn.reader l.reader
+          l.got.items;
+      turns : (n : ℕ) × ReadsInTurn reader.tells reader.steady reader.content reader.place reader.rest reader.faults reader.refuses
+          reader.read_besides n l.fn.reader l.reader l.got.items;
       so_far : IsTrue (reader.tells l.fn.reader) →
           reader.rest l.fn.reader ≡ from_place (reader.place l.fn.reader) (reader.content l.fn.reader) →
           Reached (reader.content l.fn.reader) (reader.place l.fn.reader) l.got.items (reader.place l.reader) (reader.rest l.reader);

@@ -20,7 +20,8 @@ loop-op-preserved g c =
           let loop = c.loop-op in
           let read = g.R.Read in
           let a = c.in_ok-answer_of.field-0 in
-          let more = came-more read.tells read.steady read.content read.place read.rest read.faults read.refuses read.read_besides g.R.Seek.seek_refuses g.R.Seek.seek_besides
+          let more = came-more read.tells read.steady read.content read.place read.rest read.faults read.refuses read.read_besides
+          g.R.Seek.seek_refuses g.R.Seek.seek_besides
           (take loop.op-index c.args.ops.now) loop.answers.items (get_or c.args.ops.now loop.op-index (Read 0)) a
           c.args.reader.now loop.reader c.answer_of.new.reader loop.invariant.came c.in_ok-answer_of.ensures.came in
           rw (c.in_ok-push.ensures.items, take_more c.args.ops.now loop.op-index (Read 0) (omega arith)) more;

@@ -3,7 +3,8 @@ use Rattle.age_io.proofs.retry.flush_retrying.Goals as goal
 
 pub returns-then-not-is_interruption-clause-flushes : goal.returns-then-not-is_interruption-clause-flushes
 returns-then-not-is_interruption-clause-flushes g c = let w = g.W.Write in
-    flushes-later w.tells w.faults w.refuses w.appended g.met.W.Write.joins c.args.writer.now c.loop-try.writer c.flush-answer.new.self c.flush-answer.result
+    flushes-later w.tells w.faults w.refuses w.appended g.met.W.Write.joins c.args.writer.now c.loop-try.writer c.flush-answer.new.self
+    c.flush-answer.result
     c.loop-try.invariant.untouched (c.is_interruption.ensures.no c.if-not-is_interruption.true) c.flush-answer.ensures.flushes
 
 pub loop-try-preserved : goal.loop-try-preserved

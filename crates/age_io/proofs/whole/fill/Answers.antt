@@ -38,16 +38,20 @@ returns-in_err-n g c =
       err = λ told.
           OnErr-of _ (gave-front front (g.R.Read.rest c.args.reader.now) (g.R.Read.rest c.reads.reader) (before.so_far told) _
           (g.R.Read.rest c.read_retrying.new.reader)
-          (take-put_mid_below c.reads.filled (length c.reads.buf - c.reads.filled) c.reads.buf c.read_retrying.new.buf c.reads.filled (le_refl c.reads.filled)
+          (take-put_mid_below c.reads.filled (length c.reads.buf - c.reads.filled) c.reads.buf c.read_retrying.new.buf c.reads.filled
+          (le_refl c.reads.filled)
           before.within) (reads.left (before.same.tells ∙ told)));
       cause = λ told. of_error _ _ _ is (λ other quiet.
           let fault = reads.cause (before.same.tells ∙ told) other (quiet_from before.same.faults reads.no_fewer_faults quiet) in
           let size : length front ≡ c.reads.filled = length-take-le c.reads.filled c.reads.buf before.within in
-          fault-early front (g.R.Read.rest c.args.reader.now) (g.R.Read.rest c.reads.reader) (before.so_far told) _ (grind (arith, common_steps, size)) fault);
+          fault-early front (g.R.Read.rest c.args.reader.now) (g.R.Read.rest c.reads.reader) (before.so_far told) _
+          (grind (arith, common_steps, size)) fault);
       turns = OnOk-refused _ _ refused;
-      refused = of_error _ _ _ is (filled-refused g.R.Read c.reads.buf _ c.read_retrying.new.buf c.reads.filled c.in_err-n.field-0.0 c.args.reader.now c.reads.reader
+      refused = of_error _ _ _ is (filled-refused g.R.Read c.reads.buf _ c.read_retrying.new.buf c.reads.filled c.in_err-n.field-0.0
+          c.args.reader.now c.reads.reader
           c.read_retrying.new.reader
-          (take-put_mid_below c.reads.filled (length c.reads.buf - c.reads.filled) c.reads.buf c.read_retrying.new.buf c.reads.filled (le_refl c.reads.filled)
+          (take-put_mid_below c.reads.filled (length c.reads.buf - c.reads.filled) c.reads.buf c.read_retrying.new.buf c.reads.filled
+          (le_refl c.reads.filled)
           before.within) (grind (arith, common_steps)) before reads);
     }
 
@@ -57,7 +61,8 @@ returns-in-0 g c =
     let reads = c.in_ok-n.ensures.reads in
     let some : 0 < length c.read_retrying.new.buf = grind (arith, common_steps) in
     let kept =
-    take-put_mid_below c.reads.filled (length c.reads.buf - c.reads.filled) c.reads.buf c.read_retrying.new.buf c.reads.filled (le_refl c.reads.filled)
+    take-put_mid_below c.reads.filled (length c.reads.buf - c.reads.filled) c.reads.buf c.read_retrying.new.buf c.reads.filled
+    (le_refl c.reads.filled)
     before.within in
     record {
       keeps = keeps-done g.R.Read (TriedAgain g.R.Read.refuses) c.args.reader.now c.read_retrying.new.reader
@@ -66,7 +71,8 @@ returns-in-0 g c =
           (λ e h. before.narrows e (reads.narrows e h));
       unspent = λ _. reads.unspent some;
       count = grind (arith, common_steps, before.within);
-      turns = filled-end g.R.Read c.reads.buf _ c.read_retrying.new.buf c.reads.filled c.in_ok-n.n c.args.reader.now c.reads.reader c.read_retrying.new.reader c.in-0.is
+      turns = filled-end g.R.Read c.reads.buf _ c.read_retrying.new.buf c.reads.filled c.in_ok-n.n c.args.reader.now c.reads.reader
+          c.read_retrying.new.reader c.in-0.is
           kept (grind (arith, common_steps, before.within)) some before reads;
       refused = tt;
       moves = λ told. omega (arith, reads.moves (before.same.tells ∙ told), before.moved told, c.in-0.is);

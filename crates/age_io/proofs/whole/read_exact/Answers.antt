@@ -16,7 +16,8 @@ pub loop-at-preserved : goal.loop-at-preserved
 loop-at-preserved g c =
     let before = c.loop-at.invariant in
     let reads = c.in_ok-n.ensures.reads in
-    filled-more g.R.Read c.loop-at.buf _ c.read_retrying.new.buf c.loop-at.at c.in_ok-n.n c.args.reader.now c.loop-at.reader c.read_retrying.new.reader
+    filled-more g.R.Read c.loop-at.buf _ c.read_retrying.new.buf c.loop-at.at c.in_ok-n.n c.args.reader.now c.loop-at.reader
+    c.read_retrying.new.reader
     (take-filled c.loop-at.at (length c.loop-at.buf - c.loop-at.at) c.in_ok-n.n c.loop-at.buf c.read_retrying.new.buf before.within reads.count)
     (grind (arith, common_steps, before.within, reads.count)) (grind (arith, common_steps, before.within)) before reads
 
@@ -40,7 +41,8 @@ returns-in_err-n g c =
           (omega (arith, reads.stays (before.same.tells ∙ told), before.moved told, size)) (reads.left (before.same.tells ∙ told)));
       early = λ told. of_error _ _ _ is (λ other quiet.
           let fault = reads.cause (before.same.tells ∙ told) other (quiet_from before.same.faults reads.no_fewer_faults quiet) in
-          fault-short front (g.R.Read.rest c.args.reader.now) (g.R.Read.rest c.loop-at.reader) (before.so_far told) _ _ (grind (arith, common_steps, size)) fault);
+          fault-short front (g.R.Read.rest c.args.reader.now) (g.R.Read.rest c.loop-at.reader) (before.so_far told) _ _
+          (grind (arith, common_steps, size)) fault);
     }
 
 pub returns-in-0-clause-keeps : goal.returns-in-0-clause-keeps

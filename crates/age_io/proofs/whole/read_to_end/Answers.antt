@@ -31,7 +31,8 @@ returns-in_err-room g c =
     let refused = c.from_residual.ensures.0 in
     let is = c.from_residual.ensures.1 in
     record {
-      keeps = keeps-memory g.R.Read (λ r e. (e ≡ OutOfMemory) ⊎ TriedAgain g.R.Read.refuses r e) _ c.args.reader.now c.args.reader.now c.in_err-room.field-0.0
+      keeps = keeps-memory g.R.Read (λ r e. (e ≡ OutOfMemory) ⊎ TriedAgain g.R.Read.refuses r e) _ c.args.reader.now c.args.reader.now
+          c.in_err-room.field-0.0
           is memory (same-self g.R.Read c.args.reader.now) (inl refl);
       unspent = OnOk-refused _ _ refused;
       bytes = λ told. OnOk-refused _ _ refused;
@@ -50,13 +51,15 @@ reads-preserved g c =
     let spare = c.in_ok-wanted.ensures in
     let extended = c.in_ok-extend_from_slice.ensures in
     record {
-      same = same-later g.R.Read c.args.reader.now c.reads.reader c.read_retrying.new.reader before.same (same-read g.R.Read c.reads.reader c.read_retrying.new.reader reads);
+      same = same-later g.R.Read c.args.reader.now c.reads.reader c.read_retrying.new.reader before.same
+          (same-read g.R.Read c.reads.reader c.read_retrying.new.reader reads);
       narrows = λ e h. before.narrows e (reads.narrows e h);
       some_room = before.some_room;
       start = before.start;
       longer = grind (arith, common_steps, before.longer);
       moved = λ told. grind (arith, common_steps, before.moved told, reads.moves (before.same.tells ∙ told));
-      so_far = λ told. Grown-more _ _ _ _ _ _ _ (before.so_far told) (reads.bytes (before.same.tells ∙ told)) (extended.items ∙ ap (λ l. l ++ take c.in_ok-count.count c.read_retrying.new.buf) spare.items);
+      so_far = λ told. Grown-more _ _ _ _ _ _ _ (before.so_far told) (reads.bytes (before.same.tells ∙ told))
+          (extended.items ∙ ap (λ l. l ++ take c.in_ok-count.count c.read_retrying.new.buf) spare.items);
     }
 
 pub returns-in_err-wanted : goal.returns-in_err-wanted
@@ -66,7 +69,8 @@ returns-in_err-wanted g c =
     let refused = c.from_residual-in_err-wanted.ensures.0 in
     let is = c.from_residual-in_err-wanted.ensures.1 in
     record {
-      keeps = keeps-memory g.R.Read (λ r e. (e ≡ OutOfMemory) ⊎ TriedAgain g.R.Read.refuses r e) _ c.args.reader.now c.reads.reader c.in_err-wanted.field-0.0
+      keeps = keeps-memory g.R.Read (λ r e. (e ≡ OutOfMemory) ⊎ TriedAgain g.R.Read.refuses r e) _ c.args.reader.now c.reads.reader
+          c.in_err-wanted.field-0.0
           is spare.memory before.same (inl refl);
       unspent = OnOk-refused _ _ refused;
       bytes = λ told. OnOk-refused _ _ refused;
@@ -75,7 +79,8 @@ returns-in_err-wanted g c =
       end = λ told. OnOk-refused _ _ refused;
       left = λ told. OnOk-refused _ _ refused;
       err = λ told.
-          OnErr-of _ (appended-front c.args.buf.now.items c.reads.buf.items c.spare.new.buf.items (g.R.Read.rest c.args.reader.now) (g.R.Read.rest c.reads.reader)
+          OnErr-of _ (appended-front c.args.buf.now.items c.reads.buf.items c.spare.new.buf.items (g.R.Read.rest c.args.reader.now)
+          (g.R.Read.rest c.reads.reader)
           (before.so_far told) spare.items (g.R.Read.rest c.reads.reader) (inl refl));
       cause = λ told. of_error _ _ _ is (λ other. absurd (other spare.memory));
     }
@@ -87,7 +92,8 @@ returns-in_err-count g c =
     let refused = c.from_residual-in_err-count.ensures.0 in
     let is = c.from_residual-in_err-count.ensures.1 in
     record {
-      keeps = keeps-by-read g.R.Read (λ r e. (e ≡ OutOfMemory) ⊎ TriedAgain g.R.Read.refuses r e) _ c.args.reader.now c.reads.reader c.read_retrying.new.reader
+      keeps = keeps-by-read g.R.Read (λ r e. (e ≡ OutOfMemory) ⊎ TriedAgain g.R.Read.refuses r e) _ c.args.reader.now c.reads.reader
+          c.read_retrying.new.reader
           c.in_err-count.field-0.0 is before.same before.narrows (λ e h. inr h) c.in_err-count.ensures.patient reads;
       unspent = OnOk-refused _ _ refused;
       bytes = λ told. OnOk-refused _ _ refused;
@@ -98,7 +104,8 @@ returns-in_err-count g c =
       end = λ told. OnOk-refused _ _ refused;
       left = λ told. OnOk-refused _ _ refused;
       err = λ told.
-          OnErr-of _ (appended-front c.args.buf.now.items c.reads.buf.items c.spare.new.buf.items (g.R.Read.rest c.args.reader.now) (g.R.Read.rest c.reads.reader)
+          OnErr-of _ (appended-front c.args.buf.now.items c.reads.buf.items c.spare.new.buf.items (g.R.Read.rest c.args.reader.now)
+          (g.R.Read.rest c.reads.reader)
           (before.so_far told) c.in_ok-wanted.ensures.items (g.R.Read.rest c.read_retrying.new.reader) (reads.left (before.same.tells ∙ told)));
       cause = λ told. of_error _ _ _ is (λ other quiet.
           let fault = reads.cause (before.same.tells ∙ told) other (quiet_from before.same.faults reads.no_fewer_faults quiet) in

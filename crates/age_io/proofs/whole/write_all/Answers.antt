@@ -17,7 +17,8 @@ returns-in-Err-clause-writes g c =
       same_tells = sent.same_tells ∙ before.same_tells;
       no_fewer_faults = omega (arith, sent.no_fewer_faults, before.no_fewer_faults);
       device = λ is. omega (arith, sent.device is, before.no_fewer_faults);
-      why = subst (λ n. Retried g.W.Write.refuses c.args.writer.now n c.in-Err.e) size (before.narrows (length left) c.in-Err.e (rw take_rest at sent.why));
+      why = subst (λ n. Retried g.W.Write.refuses c.args.writer.now n c.in-Err.e) size
+          (before.narrows (length left) c.in-Err.e (rw take_rest at sent.why));
       narrows = tt;
       takes_all = λ told. tt;
       takes_front = λ told.
@@ -48,7 +49,9 @@ returns-in-Ok-eq0-clause-writes g c =
         c.loop-at.at,
         before.within,
         before_nothing g.W.Write.tells g.W.Write.faults g.W.Write.refuses g.W.Write.appended g.met.W.Write.joins _ _ _ _
-            (before.so_far told) (subst (λ n. g.W.Write.appended c.loop-at.writer (take n (drop c.loop-at.at c.args.bytes.now)) c.write_retrying.new.writer) zero-is (rw take_rest at (sent.takes_front (before.same_tells ∙ told)))),
+            (before.so_far told) (subst (λ n. g.W.Write.appended c.loop-at.writer
+            (take n (drop c.loop-at.at c.args.bytes.now)) c.write_retrying.new.writer) zero-is
+            (rw take_rest at (sent.takes_front (before.same_tells ∙ told)))),
       );
     }
 
@@ -62,6 +65,7 @@ loop-at-preserved g c =
       narrows = narrows-both (Retried g.W.Write.refuses) c.args.writer.now c.loop-at.writer c.write_retrying.new.writer
           c.loop-at.at c.in-Ok.n before.narrows sent.narrows;
       within = grind (arith, common_steps);
-      so_far = λ told. further g.W.Write.tells g.W.Write.faults g.W.Write.refuses g.W.Write.appended g.met.W.Write.joins _ _ _ c.args.bytes.now c.loop-at.at c.in-Ok.n
+      so_far = λ told. further g.W.Write.tells g.W.Write.faults g.W.Write.refuses g.W.Write.appended g.met.W.Write.joins _ _ _ c.args.bytes.now
+          c.loop-at.at c.in-Ok.n
           (before.so_far told) (rw take_rest at (sent.takes_front (before.same_tells ∙ told)));
     }

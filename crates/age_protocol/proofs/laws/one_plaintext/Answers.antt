@@ -6,4 +6,5 @@ returns-clause-header g c = one_header c.header_text_reads_back.ensures c.verdic
 
 pub returns-clause-plaintext : goal.returns-clause-plaintext
 returns-clause-plaintext g c =
-    one_plain c.header_text_reads_back.ensures c.verdict_is_unique.ensures g.S.Suite.seal_of c.mac_laws.ensures.key_bytes c.payload_laws.ensures.one_plaintext
+    one_plain c.header_text_reads_back.ensures c.verdict_is_unique.ensures g.S.Suite.seal_of c.mac_laws.ensures.key_bytes
+    c.payload_laws.ensures.one_plaintext

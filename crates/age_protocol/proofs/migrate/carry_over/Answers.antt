@@ -15,16 +15,27 @@ returns-in_err-write_all g c =
     let old = c.args.writer.now in
     let begins = c.in_ok-header.ensures in
     let (answer, first, rewrites) = c.in_ok-header-2.ensures in
-    let under = is_under g.I.Identity.unwraps g.R.Read c.args.identities.now c.rewritten.new.identities input rest c.in_ok-header.field-0 _ c.in_ok-header-2.header
+    let under = is_under g.I.Identity.unwraps g.R.Read c.args.identities.now c.rewritten.new.identities input rest c.in_ok-header.field-0 _
+    c.in_ok-header-2.header
     c.in_ok-text.ensures.text begins answer first rewrites in
     let e = c.in_err-write_all.field-0.0 in
     let writes = (rw (c.deref.ensures.value ∙ under.front) at c.in_err-write_all.ensures.writes) in
-    refused_as (λ r. Migrates g.I.Identity.unwraps g.R.Read g.W.Write c.args.identities.now c.rewritten.new.identities input rest old c.write_all.new.writer r)
+    refused_as (λ r. Migrates g.I.Identity.unwraps g.R.Read g.W.Write c.args.identities.now c.rewritten.new.identities input rest old
+    c.write_all.new.writer r)
     _ (decrypt_of_io e) c.from_residual-in_err-write_all.ensures.1 (record {
       done = λ told writer_told. tt;
       front = λ told writer_told.
           let (n, most, out) = writes.takes_front writer_told in
-          inr (h, nonce, rest, under.key, under.asks, under.right, begun_front g.W.Write.appended _ (g.R.Read.rest rest).bytes old c.write_all.new.writer n out);
+          inr (
+            h,
+            nonce,
+            rest,
+            under.key,
+            under.asks,
+            under.right,
+            begun_front g.W.Write.appended _
+                (g.R.Read.rest rest).bytes old c.write_all.new.writer n out,
+          );
       refused = inr (inr (
         h,
         nonce,
@@ -51,12 +62,14 @@ returns-in_err-copy_all g c =
     let old = c.args.writer.now in
     let begins = c.in_ok-header.ensures in
     let (answer, first, rewrites) = c.in_ok-header-2.ensures in
-    let under = is_under g.I.Identity.unwraps g.R.Read c.args.identities.now c.rewritten.new.identities input rest c.in_ok-header.field-0 _ c.in_ok-header-2.header
+    let under = is_under g.I.Identity.unwraps g.R.Read c.args.identities.now c.rewritten.new.identities input rest c.in_ok-header.field-0 _
+    c.in_ok-header-2.header
     c.in_ok-text.ensures.text begins answer first rewrites in
     let e = c.in_err-copy_all.field-0.0 in
     let writes = (rw (c.deref.ensures.value ∙ under.front) at c.in_ok-write_all.ensures.writes) in
     let copies = c.in_err-copy_all.ensures in
-    refused_as (λ r. Migrates g.I.Identity.unwraps g.R.Read g.W.Write c.args.identities.now c.rewritten.new.identities input c.copy_all.new.reader old c.copy_all.new.writer r)
+    refused_as (λ r. Migrates g.I.Identity.unwraps g.R.Read g.W.Write c.args.identities.now c.rewritten.new.identities input c.copy_all.new.reader
+    old c.copy_all.new.writer r)
     _ (decrypt_of_io e) c.from_residual-in_err-copy_all.ensures.1 (record {
       done = λ told writer_told. tt;
       front = λ told writer_told.
@@ -85,7 +98,8 @@ returns-in_err-copy_all g c =
                 | inl reader ↦ inl (omega (arith, begins.keeps.faults, reader))
                 | inr writer ↦ inr (omega (arith, writes.no_fewer_faults, writer))
               ];
-          why = copy_refuses (TriedAgain g.R.Read.refuses) g.W.Write.refuses input rest old c.write_all.new.writer _ _ _ _ e begins.narrows writes.narrows
+          why = copy_refuses (TriedAgain g.R.Read.refuses) g.W.Write.refuses input rest old c.write_all.new.writer _ _ _ _ e begins.narrows
+              writes.narrows
               (λ told. begins.keeps.tells ∙ told) copies.named;
           quiet = λ told well quiet.
               elim (copies.why (begins.keeps.tells ∙ told) (subst (λ b. IsTrue b) (sym (begins.front told).took.delivered.end) well)
@@ -106,7 +120,8 @@ returns g c =
     let old = c.args.writer.now in
     let begins = c.in_ok-header.ensures in
     let (answer, first, rewrites) = c.in_ok-header-2.ensures in
-    let under = is_under g.I.Identity.unwraps g.R.Read c.args.identities.now c.rewritten.new.identities input rest c.in_ok-header.field-0 _ c.in_ok-header-2.header
+    let under = is_under g.I.Identity.unwraps g.R.Read c.args.identities.now c.rewritten.new.identities input rest c.in_ok-header.field-0 _
+    c.in_ok-header-2.header
     c.in_ok-text.ensures.text begins answer first rewrites in
     let writes = (rw (c.deref.ensures.value ∙ under.front) at c.in_ok-write_all.ensures.writes) in
     let copies = c.in_ok-copy_all.ensures in

@@ -8,6 +8,7 @@ returns-clause-files g c = λ told well writer_told file_key stanzas plain is fo
     let bytes = c.mac_laws.ensures.mac_bytes in (
       migrated alone one bytes g.S.Suite.seal_of g.I.Identity.unwraps g.R.Read g.W.Write g.met.W.Write.appends_nothing _ _ _ _ _ _ c.carry_over.result
           c.carry_over.ensures told well writer_told file_key stanzas plain is for,
-      refused_alone alone one bytes g.S.Suite.seal_of g.I.Identity.unwraps g.R.Read g.W.Write g.met.W.Write.appends_nothing _ _ _ _ _ _ c.carry_over.result
+      refused_alone alone one bytes g.S.Suite.seal_of g.I.Identity.unwraps g.R.Read g.W.Write g.met.W.Write.appends_nothing _ _ _ _ _ _
+          c.carry_over.result
           c.carry_over.ensures told well writer_told file_key stanzas plain is for,
     )

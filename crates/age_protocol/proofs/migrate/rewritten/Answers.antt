@@ -13,7 +13,8 @@ returns-in_err-file_key g c =
       answer,
       first,
       subst (λ k. Rewrites k c.args.header c.from_residual.result) is
-          (refused_as (λ r. Rewrites (Err (decrypt_refusal c.in_err-file_key.field-0.0)) c.args.header r) _ c.in_err-file_key.field-0.0 c.from_residual.ensures.1 refl),
+          (refused_as (λ r. Rewrites (Err (decrypt_refusal c.in_err-file_key.field-0.0)) c.args.header r) _ c.in_err-file_key.field-0.0
+          c.from_residual.ensures.1 refl),
     )
 
 pub returns-then-not-verify_mac : goal.returns-then-not-verify_mac

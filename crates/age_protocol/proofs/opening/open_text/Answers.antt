@@ -13,7 +13,8 @@ returns-in-Err-open_file-clause-plaintext g c = λ told well file plain carries 
     let made = c.in-Ok.ensures in
     let rest : armored_rest c.in-Ok.bytes ≡ whole file = made.honest file well carries in
     c.in-Err-open_file.ensures.plaintext (both_told _ _ _ _ made.tells made.steady told) (ap (λ s. s.ends_well) rest) plain
-    (file_for g.S.Suite.seal_of (FirstAnswer g.I.Identity.unwraps c.args.identities.now) plain file (armored_rest c.in-Ok.bytes).bytes (sym (ap (λ s. s.bytes) rest)) for)
+    (file_for g.S.Suite.seal_of (FirstAnswer g.I.Identity.unwraps c.args.identities.now) plain file (armored_rest c.in-Ok.bytes).bytes
+    (sym (ap (λ s. s.bytes) rest)) for)
     (λ t. never t.source.inner.inner)
 
 pub returns-in-Ok-open_file-clause-plaintext : goal.returns-in-Ok-open_file-clause-plaintext
@@ -21,7 +22,8 @@ returns-in-Ok-open_file-clause-plaintext g c = λ told well file plain carries f
     let made = c.in-Ok.ensures in
     let rest : armored_rest c.in-Ok.bytes ≡ whole file = made.honest file well carries in
     c.in-Ok-open_file.ensures.plaintext (both_told _ _ _ _ made.tells made.steady told) (ap (λ s. s.ends_well) rest) plain
-    (file_for g.S.Suite.seal_of (FirstAnswer g.I.Identity.unwraps c.args.identities.now) plain file (armored_rest c.in-Ok.bytes).bytes (sym (ap (λ s. s.bytes) rest)) for)
+    (file_for g.S.Suite.seal_of (FirstAnswer g.I.Identity.unwraps c.args.identities.now) plain file (armored_rest c.in-Ok.bytes).bytes
+    (sym (ap (λ s. s.bytes) rest)) for)
 
 pub returns-in-Ok-open_file-clause-opened : goal.returns-in-Ok-open_file-clause-opened
 returns-in-Ok-open_file-clause-opened g c =

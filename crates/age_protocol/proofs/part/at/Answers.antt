@@ -19,7 +19,8 @@ use Rattle.age_protocol.proofs.part.at.Goals as goal
 pub returns-in-Err : goal.returns-in-Err
 returns-in-Err g c = record {
   cursor = λ reader_told writer_told well file plain carries for.
-      memory_before g.W.Write.appended g.W.Write.refuses c.args.place c.args.count plain _ c.args.writer.now c.in-Err.e (g.met.W.Write.appends_nothing c.args.writer.now)
+      memory_before g.W.Write.appended g.W.Write.refuses c.args.place c.args.count plain _ c.args.writer.now c.in-Err.e
+      (g.met.W.Write.appends_nothing c.args.writer.now)
       (memory_only c.in-Err.e _ _ well (c.in-Err.ensures.cause reader_told));
   standing = λ reader_told writer_told. inl refl;
   given = λ reader_told writer_told. tt;
@@ -39,16 +40,21 @@ returns g c =
     c.deref.ensures.value ∙ c.in-Ok.ensures.bytes reader_told ∙ ap (λ (l : List ℕ). l ++ rest.bytes) c.new-text.ensures.items in
     record {
       cursor = λ reader_told writer_told well file plain carries for.
-          quiet_by g.W.Write.appended g.W.Write.refuses c.args.place c.args.count plain _ _ c.args.writer.now c.at_text.new.writer c.at_text.result (λ quiet. tt)
+          quiet_by g.W.Write.appended g.W.Write.refuses c.args.place c.args.count plain _ _ c.args.writer.now c.at_text.new.writer
+          c.at_text.result (λ quiet. tt)
           (c.at_text.ensures.cursor writer_told file plain (subst (λ (l : List ℕ). Carries l file) (sym (same reader_told)) carries) for);
       standing = λ reader_told writer_told.
-          begun-or (HasFront (stretch_of (text_delivers text true)) 0) front _ _ g.W.Write.appended c.args.count (StandsAt g.S.Suite.seal_of c.args.place) c.args.writer.now
-          c.at_text.new.writer (begins-read g.R.Read.tells g.R.Read.rest reader text (same reader_told) (c.in-Ok.ensures.end reader_told)) (λ key stanzas by. by)
+          begun-or (HasFront (stretch_of (text_delivers text true)) 0) front _ _ g.W.Write.appended c.args.count
+          (StandsAt g.S.Suite.seal_of c.args.place) c.args.writer.now
+          c.at_text.new.writer (begins-read g.R.Read.tells g.R.Read.rest reader text (same reader_told) (c.in-Ok.ensures.end reader_told))
+          (λ key stanzas by. by)
           (c.at_text.ensures.standing writer_told);
       given = λ reader_told writer_told.
           on_ok_weaker c.at_text.result
-          (begun (HasFront (stretch_of (text_delivers text true)) 0) front _ _ g.W.Write.appended c.args.count (IsPartAt g.S.Suite.seal_of c.args.place c.args.count) c.args.writer.now
-          c.at_text.new.writer (begins-read g.R.Read.tells g.R.Read.rest reader text (same reader_told) (c.in-Ok.ensures.end reader_told)) (λ key stanzas by. by))
+          (begun (HasFront (stretch_of (text_delivers text true)) 0) front _ _ g.W.Write.appended c.args.count
+          (IsPartAt g.S.Suite.seal_of c.args.place c.args.count) c.args.writer.now
+          c.at_text.new.writer (begins-read g.R.Read.tells g.R.Read.rest reader text (same reader_told) (c.in-Ok.ensures.end reader_told))
+          (λ key stanzas by. by))
           (c.at_text.ensures.given writer_told);
       io =
           IfErr-weaker c.at_text.result _ _
@@ -71,10 +77,12 @@ returns g c =
           c.at_text.ensures.io;
       why = λ reader_told.
           let asked = AnswersFirst g.I.Identity.unwraps c.args.identities.now c.at_text.new.identities in
-          let opening : (refusal : DecryptRefusal) → RefusesOpening text (HasFront (read_of text) 0) asked refusal → RefusesOpening rest.bytes front asked refusal =
+          let opening : (refusal : DecryptRefusal) → RefusesOpening text (HasFront (read_of text) 0) asked refusal
+          → RefusesOpening rest.bytes front asked refusal =
           λ refusal why. elim why [
             | inl lacks ↦ inl (subst (λ (l : List ℕ). LacksFront l refusal) (same reader_told) lacks)
-            | inr answered ↦ inr (refuses_answered _ front (begins-read g.R.Read.tells g.R.Read.rest reader text (same reader_told) (c.in-Ok.ensures.end reader_told)) asked asked
+            | inr answered ↦ inr (refuses_answered _ front
+                (begins-read g.R.Read.tells g.R.Read.rest reader text (same reader_told) (c.in-Ok.ensures.end reader_told)) asked asked
                 (λ stanzas answer by. by) refusal answered)
           ] in
           IfErr-weaker c.at_text.result _ _ (decrypts_weaker _ _ opening) c.at_text.ensures.why;
@@ -88,7 +96,8 @@ returns g c =
                 | inl reading ↦ inr (inr (inr (inl (subst (λ (l : List ℕ). RefusesReading l e) (same reader_told) reading))))
                 | inr part ↦ inr (inr (inr (inr (begun (HasFront (stretch_of (text_delivers text true)) 0) front _ _ g.W.Write.appended c.args.count
                     (RefusesPart g.S.Suite.seal_of (λ f. f ≡ Failed) c.args.place e) c.args.writer.now c.at_text.new.writer
-                    (begins-read g.R.Read.tells g.R.Read.rest reader text (same reader_told) (c.in-Ok.ensures.end reader_told)) (λ key stanzas by. by) part))))
+                    (begins-read g.R.Read.tells g.R.Read.rest reader text (same reader_told) (c.in-Ok.ensures.end reader_told))
+                    (λ key stanzas by. by) part))))
               ]
             ]
           ]))

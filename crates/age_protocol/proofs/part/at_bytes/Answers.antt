@@ -14,7 +14,8 @@ use Rattle.age_protocol.proofs.part.at_bytes.Goals as goal
 
 pub returns-in-Err-clause-cursor : goal.returns-in-Err-clause-cursor
 returns-in-Err-clause-cursor g c = λ bytes_told writer_told well plain for.
-    refused_before g.W.Write.appended g.W.Write.refuses _ c.args.place c.args.count plain c.args.writer.now c.in-Err.e (g.met.W.Write.appends_nothing c.args.writer.now)
+    refused_before g.W.Write.appended g.W.Write.refuses _ c.args.place c.args.count plain c.args.writer.now c.in-Err.e
+    (g.met.W.Write.appends_nothing c.args.writer.now)
     (c.in-Err.ensures.plaintext bytes_told well plain for)
 
 pub returns-in-Err-write_part-clause-cursor : goal.returns-in-Err-write_part-clause-cursor
@@ -24,7 +25,8 @@ returns-in-Err-write_part-clause-cursor g c = λ bytes_told writer_told well pla
     let told = c.in-Ok.ensures.tells ∙ bytes_told in
     let ends_well = ap (λ s. s.ends_well) stands.content in
     let writes = c.in-Err-write_part.ensures in
-    part_refused g.W.Write.appended g.W.Write.refuses _ c.args.place c.args.count plain (content_of stream) _ _ c.args.writer.now c.write_part.new.writer c.in-Err-write_part.e stands.content
+    part_refused g.W.Write.appended g.W.Write.refuses _ c.args.place c.args.count plain
+    (content_of stream) _ _ c.args.writer.now c.write_part.new.writer c.in-Err-write_part.e stands.content
     (λ still. never_fails g.T.Read.faults _ _ still) (writes.front told writer_told ends_well) (λ past. writes.past_end told ends_well past)
     (λ within quiet. writes.why told ends_well within quiet)
 
@@ -35,25 +37,29 @@ returns-clause-cursor g c = λ bytes_told writer_told well plain for.
     let told = c.in-Ok.ensures.tells ∙ bytes_told in
     let ends_well = ap (λ s. s.ends_well) stands.content in
     let writes = c.in-Ok-write_part.ensures in
-    part_done g.W.Write.appended g.W.Write.refuses _ c.args.place c.args.count plain (content_of stream) c.args.writer.now c.write_part.new.writer _ stands.content
+    part_done g.W.Write.appended g.W.Write.refuses _ c.args.place c.args.count plain
+    (content_of stream) c.args.writer.now c.write_part.new.writer _ stands.content
     (writes.part told writer_told ends_well) (writes.front told writer_told ends_well) (λ past. writes.past_end told ends_well past)
 
 pub returns-in-Err-write_part-clause-standing : goal.returns-in-Err-write_part-clause-standing
 returns-in-Err-write_part-clause-standing g c = λ fresh bytes_told writer_told.
     let made = c.in-Ok.ensures in
-    inr (opened-part _ _ _ c.args.bytes c.in-Ok.stream g.W.Write.appended c.args.count (StandsAt g.S.Suite.seal_of c.args.place) c.args.writer.now c.write_part.new.writer fresh bytes_told made.opened
+    inr (opened-part _ _ _ c.args.bytes c.in-Ok.stream g.W.Write.appended c.args.count
+    (StandsAt g.S.Suite.seal_of c.args.place) c.args.writer.now c.write_part.new.writer fresh bytes_told made.opened
     (c.write_part.ensures.standing (made.tells ∙ bytes_told) writer_told))
 
 pub returns-clause-standing : goal.returns-clause-standing
 returns-clause-standing g c = λ fresh bytes_told writer_told.
     let made = c.in-Ok.ensures in
-    inr (opened-part _ _ _ c.args.bytes c.in-Ok.stream g.W.Write.appended c.args.count (StandsAt g.S.Suite.seal_of c.args.place) c.args.writer.now c.write_part.new.writer fresh bytes_told made.opened
+    inr (opened-part _ _ _ c.args.bytes c.in-Ok.stream g.W.Write.appended c.args.count
+    (StandsAt g.S.Suite.seal_of c.args.place) c.args.writer.now c.write_part.new.writer fresh bytes_told made.opened
     (c.write_part.ensures.standing (made.tells ∙ bytes_told) writer_told))
 
 pub returns-clause-given : goal.returns-clause-given
 returns-clause-given g c = λ fresh bytes_told writer_told.
     let made = c.in-Ok.ensures in
-    opened-part _ _ _ c.args.bytes c.in-Ok.stream g.W.Write.appended c.args.count (IsPartAt g.S.Suite.seal_of c.args.place c.args.count) c.args.writer.now c.write_part.new.writer fresh bytes_told made.opened
+    opened-part _ _ _ c.args.bytes c.in-Ok.stream g.W.Write.appended c.args.count
+    (IsPartAt g.S.Suite.seal_of c.args.place c.args.count) c.args.writer.now c.write_part.new.writer fresh bytes_told made.opened
     (c.in-Ok-write_part.ensures.given (made.tells ∙ bytes_told) writer_told)
 
 pub returns-in-Err-write_part-clause-io : goal.returns-in-Err-write_part-clause-io
@@ -71,7 +77,8 @@ returns-in-Err-write_part-clause-io g c =
               | inr below ↦ inr (inr (inr (inl (inr below))))
             ]
           ]
-          | inr tried ↦ elim (from_stream refuses_of g.T.Read.refuses _ c.in-Ok.stream opened.input c.args.bytes c.in-Err-write_part.e reader.named (λ s. s.is)
+          | inr tried ↦ elim (from_stream refuses_of g.T.Read.refuses _ c.in-Ok.stream opened.input c.args.bytes c.in-Err-write_part.e
+              reader.named (λ s. s.is)
               opened.asks.narrows tried) [
                 | inl own ↦ inr (inr (inr (inr own.is)))
                 | inr text ↦ inr (inl text)
@@ -100,7 +107,8 @@ returns-in-Err-write_part-clause-cause g c = λ fresh bytes_told writer_told.
     let same = opened.asks.same in
     let asked = λ (tried : TriedAgain refuses_of stream e).
     from_stream refuses_of g.T.Read.refuses _ stream opened.input c.args.bytes e reader.named (λ s. s.is) opened.asks.narrows tried in
-    let stops = λ (own : Stops suite.seal_of (payload_key opened.file_key opened.nonce) (from_place (g.T.Read.place opened.input) (g.T.Read.content opened.input))
+    let stops = λ (own : Stops suite.seal_of (payload_key opened.file_key opened.nonce)
+    (from_place (g.T.Read.place opened.input) (g.T.Read.content opened.input))
     (IsTrue (g.T.Read.tells opened.input && g.T.Read.steady opened.input)) e).
     subst (λ k. Stops suite.seal_of k (payload_of stream) (Unit {0}) e) (sym reader.same_key)
     (stops-as suite.seal_of _ _ (payload_of stream) _ _ e (λ u. rw (same.tells, same.steady) bytes_told) (λ u. sym reader.sealed) own) in
@@ -113,10 +121,15 @@ returns-in-Err-write_part-clause-cause g c = λ fresh bytes_told writer_told.
               | inl tried ↦ elim (asked tried) [ inl own ↦ inr (inr (inr (says (λ out. inr (inr (inr (stops own))))))) | inr text ↦ inr (inl text) ]
               | inr more ↦ elim more [
                 | inl writes ↦ inr (inr (inl (c.args.count, writes)))
-                | inr ends ↦ inr (inr (inr (part (some_holds g.W.Write.appended c.args.count _ _ before after (λ out none. inl (ends.0, none.0, none.1)) ends.1))))
+                | inr ends ↦ inr (inr (inr (part (some_holds g.W.Write.appended c.args.count _ _ before after
+                    (λ out none. inl (ends.0, none.0, none.1)) ends.1))))
               ]
             ]
-            | inr own ↦ elim own [ inl long ↦ inr (inr (inr (says (λ out. inr (inl long))))) | inr below ↦ inr (inr (inr (says (λ out. inr (inr (inl below)))))) ]
+            | inr own ↦ elim own [
+              | inl long ↦ inr (inr (inr (says (λ out. inr (inl long)))))
+              | inr below ↦ inr
+                  (inr (inr (says (λ out. inr (inr (inl below))))))
+            ]
           ]
           | inr tried ↦ elim (asked tried) [ inl own ↦ inr (inr (inr (says (λ out. inr (inr (inr (stops own))))))) | inr text ↦ inr (inl text) ]
         ]

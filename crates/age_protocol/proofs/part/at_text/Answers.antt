@@ -25,14 +25,19 @@ use Rattle.age_protocol.proofs.Standing.{begun, begun-or, same-content, fresh-te
 use Rattle.age_protocol.proofs.part.at_text.Goals as goal
 
 -- of a text in memory, what only seeks refuse with
-failed_below : (seal_of : Seal) (place : ℕ) (e : Error) (key : List ℕ) (sealed : Stretch) (out : List ℕ) → RefusesPart seal_of (OrAstray (λ _. ⊥)) place e key sealed out
+failed_below : (seal_of : Seal) (place : ℕ) (e : Error) (key : List ℕ) (sealed : Stretch) (out : List ℕ)
+    → RefusesPart seal_of (OrAstray (λ _. ⊥)) place e key sealed out
     → RefusesPart seal_of (λ f. f ≡ Failed) place e key sealed out
 failed_below seal_of place e key sealed out why = elim why [
   | inl ends ↦ inl ends
   | inr other ↦ elim other [
     | inl long ↦ inr (inl long)
     | inr more ↦ elim more [
-      | inl below ↦ elim below [ inl long ↦ inr (inl long) | inr astray ↦ elim astray [ inl failed ↦ inr (inr (inl failed)) | inr none ↦ absurd none ] ]
+      | inl below ↦ elim below [
+        | inl long ↦ inr
+            (inl long)
+        | inr astray ↦ elim astray [ inl failed ↦ inr (inr (inl failed)) | inr none ↦ absurd none ]
+      ]
       | inr stops ↦ inr (inr (inr stops))
     ]
   ]
@@ -40,15 +45,18 @@ failed_below seal_of place e key sealed out why = elim why [
 
 pub returns-in-Err-clause-cursor : goal.returns-in-Err-clause-cursor
 returns-in-Err-clause-cursor g c = λ writer_told file plain carries for.
-    memory_before g.W.Write.appended g.W.Write.refuses c.args.place c.args.count plain _ c.args.writer.now c.in-Err.e (g.met.W.Write.appends_nothing c.args.writer.now)
+    memory_before g.W.Write.appended g.W.Write.refuses c.args.place c.args.count plain _ c.args.writer.now c.in-Err.e
+    (g.met.W.Write.appends_nothing c.args.writer.now)
     (λ quiet. c.in-Err.ensures.opens.memory)
 
 pub returns-in-Ok-clause-cursor : goal.returns-in-Ok-clause-cursor
 returns-in-Ok-clause-cursor g c = λ writer_told file plain carries for.
     let bytes = c.in-Ok.bytes in
     let rest : armored_rest bytes ≡ whole file =
-    c.in-Ok.ensures.opens.honest file (ap (λ s. s.ends_well) c.new.ensures.rest) (subst (λ (l : List ℕ). Carries l file) (sym (ap (λ s. s.bytes) c.new.ensures.rest)) carries) in
-    quiet_by g.W.Write.appended g.W.Write.refuses c.args.place c.args.count plain _ _ c.args.writer.now c.at_bytes.new.writer c.at_bytes.result (λ u t. refl)
+    c.in-Ok.ensures.opens.honest file (ap (λ s. s.ends_well) c.new.ensures.rest)
+    (subst (λ (l : List ℕ). Carries l file) (sym (ap (λ s. s.bytes) c.new.ensures.rest)) carries) in
+    quiet_by g.W.Write.appended g.W.Write.refuses c.args.place c.args.count plain _ _ c.args.writer.now c.at_bytes.new.writer c.at_bytes.result
+    (λ u t. refl)
     (c.at_bytes.ensures.cursor refl writer_told (ap (λ s. s.ends_well) rest) plain
     (file_for g.S.Suite.seal_of _ plain file (armored_rest bytes).bytes (sym (ap (λ s. s.bytes) rest)) for))
 
@@ -57,11 +65,15 @@ returns-in-Ok-clause-standing g c = λ writer_told.
     let bytes = c.in-Ok.bytes in
     let made = c.in-Ok.ensures.opens in
     let text = c.args.text.now in
-    let rest : armored_rest bytes ≡ stretch_of (text_delivers text true) = made.rest ∙ ap (λ s. stretch_of (text_delivers s.bytes s.ends_well)) c.new.ensures.rest in
+    let rest : armored_rest bytes ≡ stretch_of (text_delivers text true) =
+    made.rest ∙ ap (λ s. stretch_of (text_delivers s.bytes s.ends_well)) c.new.ensures.rest in
     let content : armored_content bytes ≡ stretch_of (text_delivers text true) =
     made.content ∙ same-content _ (whole text) _ 0 c.new.ensures.content c.new.ensures.place in
-    let fresh = fresh-text (armored_rest bytes) (armored_content bytes) (stretch_of (text_delivers text true)) (place_of bytes) rest content made.place in
-    begun-or (HasFront (armored_rest bytes) (place_of bytes)) (HasFront (stretch_of (text_delivers text true)) 0) _ _ g.W.Write.appended c.args.count (StandsAt g.S.Suite.seal_of c.args.place) c.args.writer.now c.at_bytes.new.writer
+    let fresh = fresh-text (armored_rest bytes) (armored_content bytes) (stretch_of (text_delivers text true))
+    (place_of bytes) rest content made.place in
+    begun-or (HasFront (armored_rest bytes) (place_of bytes))
+    (HasFront (stretch_of (text_delivers text true)) 0) _ _ g.W.Write.appended c.args.count
+    (StandsAt g.S.Suite.seal_of c.args.place) c.args.writer.now c.at_bytes.new.writer
     (begins-same (armored_rest bytes) (stretch_of (text_delivers text true)) (place_of bytes) rest made.place) (λ key stanzas by. by)
     (c.at_bytes.ensures.standing fresh refl writer_told)
 
@@ -70,12 +82,16 @@ returns-in-Ok-clause-given g c = λ writer_told.
     let bytes = c.in-Ok.bytes in
     let made = c.in-Ok.ensures.opens in
     let text = c.args.text.now in
-    let rest : armored_rest bytes ≡ stretch_of (text_delivers text true) = made.rest ∙ ap (λ s. stretch_of (text_delivers s.bytes s.ends_well)) c.new.ensures.rest in
+    let rest : armored_rest bytes ≡ stretch_of (text_delivers text true) =
+    made.rest ∙ ap (λ s. stretch_of (text_delivers s.bytes s.ends_well)) c.new.ensures.rest in
     let content : armored_content bytes ≡ stretch_of (text_delivers text true) =
     made.content ∙ same-content _ (whole text) _ 0 c.new.ensures.content c.new.ensures.place in
-    let fresh = fresh-text (armored_rest bytes) (armored_content bytes) (stretch_of (text_delivers text true)) (place_of bytes) rest content made.place in
+    let fresh = fresh-text (armored_rest bytes) (armored_content bytes) (stretch_of (text_delivers text true))
+    (place_of bytes) rest content made.place in
     on_ok_weaker c.at_bytes.result
-    (begun (HasFront (armored_rest bytes) (place_of bytes)) (HasFront (stretch_of (text_delivers text true)) 0) _ _ g.W.Write.appended c.args.count (IsPartAt g.S.Suite.seal_of c.args.place c.args.count) c.args.writer.now c.at_bytes.new.writer
+    (begun (HasFront (armored_rest bytes) (place_of bytes))
+    (HasFront (stretch_of (text_delivers text true)) 0) _ _ g.W.Write.appended c.args.count
+    (IsPartAt g.S.Suite.seal_of c.args.place c.args.count) c.args.writer.now c.at_bytes.new.writer
     (begins-same (armored_rest bytes) (stretch_of (text_delivers text true)) (place_of bytes) rest made.place) (λ key stanzas by. by))
     (c.at_bytes.ensures.given fresh refl writer_told)
 
@@ -86,7 +102,8 @@ returns-in-Ok-clause-io g c =
     (io_weaker _ _ (λ e why. elim why [
       | inl memory ↦ inl memory
       | inr other ↦ elim other [
-        | inl text ↦ inr (inr (inr (inr (inl (from_slice refuses_of bytes c.new.result _ _ c.args.text.now e c.new.ensures.content c.new.ensures.place c.in-Ok.ensures.opens.named text)))))
+        | inl text ↦ inr (inr (inr (inr (inl (from_slice refuses_of bytes c.new.result _ _ c.args.text.now e c.new.ensures.content
+            c.new.ensures.place c.in-Ok.ensures.opens.named text)))))
         | inr rest ↦ elim rest [
           | inl writer ↦ inr (inl writer)
           | inr asked ↦ elim asked [
@@ -113,21 +130,26 @@ returns-in-Ok-clause-cause g c = λ writer_told.
     let made = c.in-Ok.ensures.opens in
     let text = c.args.text.now in
     let seal_of = g.S.Suite.seal_of in
-    let rest : armored_rest bytes ≡ stretch_of (text_delivers text true) = made.rest ∙ ap (λ s. stretch_of (text_delivers s.bytes s.ends_well)) c.new.ensures.rest in
+    let rest : armored_rest bytes ≡ stretch_of (text_delivers text true) =
+    made.rest ∙ ap (λ s. stretch_of (text_delivers s.bytes s.ends_well)) c.new.ensures.rest in
     let content : armored_content bytes ≡ stretch_of (text_delivers text true) =
     made.content ∙ same-content _ (whole text) _ 0 c.new.ensures.content c.new.ensures.place in
-    let fresh = fresh-text (armored_rest bytes) (armored_content bytes) (stretch_of (text_delivers text true)) (place_of bytes) rest content made.place in
+    let fresh = fresh-text (armored_rest bytes) (armored_content bytes) (stretch_of (text_delivers text true))
+    (place_of bytes) rest content made.place in
     IfErr-weaker c.at_bytes.result _ _
     (io_weaker _ _ (λ e why. elim why [
       | inl memory ↦ inl memory
       | inr other ↦ elim other [
-        | inl tried ↦ inr (inr (inl (from_slice refuses_of bytes c.new.result _ _ c.args.text.now e c.new.ensures.content c.new.ensures.place c.in-Ok.ensures.opens.named tried)))
+        | inl tried ↦ inr (inr (inl (from_slice refuses_of bytes c.new.result _ _ c.args.text.now e c.new.ensures.content c.new.ensures.place
+            c.in-Ok.ensures.opens.named tried)))
         | inr more ↦ elim more [
           | inl writes ↦ inr (inl writes)
-          | inr part ↦ inr (inr (inr (begun (HasFront (armored_rest bytes) (place_of bytes)) (HasFront (stretch_of (text_delivers text true)) 0) _ _ g.W.Write.appended c.args.count
+          | inr part ↦ inr (inr (inr (begun (HasFront (armored_rest bytes) (place_of bytes))
+              (HasFront (stretch_of (text_delivers text true)) 0) _ _ g.W.Write.appended c.args.count
               (RefusesPart seal_of (λ f. f ≡ Failed) c.args.place e) c.args.writer.now c.at_bytes.new.writer
               (begins-same (armored_rest bytes) (stretch_of (text_delivers text true)) (place_of bytes) rest made.place) (λ key stanzas by. by)
-              (of_holds _ _ g.W.Write.appended c.args.count _ (RefusesPart seal_of (λ f. f ≡ Failed) c.args.place e) c.args.writer.now c.at_bytes.new.writer
+              (of_holds _ _ g.W.Write.appended c.args.count _
+              (RefusesPart seal_of (λ f. f ≡ Failed) c.args.place e) c.args.writer.now c.at_bytes.new.writer
               (λ key sealed out. failed_below seal_of c.args.place e key sealed out) part))))
         ]
       ]
@@ -146,6 +168,7 @@ returns-in-Ok-clause-why g c =
     RefusesOpening text (HasFront (read_of text) 0) (AnswersFirst g.I.Identity.unwraps old new) refusal = λ refusal why. elim why [
       | inl (same, (last, refuses)) ↦ inl (lacks_front _ bytes last _ text refuses refl start made.place refl refl
           (λ e. from_slice refuses_of bytes c.new.result _ _ text e c.new.ensures.content c.new.ensures.place made.named))
-      | inr (h, nonce, input, answer, asks, key) ↦ inr (h, nonce, armored_rest input, answer, (_, rw (start, made.place) at (asks.front refl)), asks.first, key)
+      | inr (h, nonce, input, answer, asks, key) ↦ inr
+          (h, nonce, armored_rest input, answer, (_, rw (start, made.place) at (asks.front refl)), asks.first, key)
     ] in
     IfErr-weaker c.at_bytes.result _ _ (decrypts_weaker _ _ opening) c.at_bytes.ensures.unopened

@@ -15,13 +15,17 @@ use Rattle.age_io.specs.Copying.{AppendsFront}
 use Rattle.age_protocol.proofs.part.write_part.Goals as goal
 
 pub returns-in-Err-clause-front : goal.returns-in-Err-clause-front
-returns-in-Err-clause-front g c = λ told writer_told well. none-copied g.W.Write.appended _ c.args.writer.now (g.met.W.Write.appends_nothing c.args.writer.now)
+returns-in-Err-clause-front g c = λ told writer_told well. none-copied g.W.Write.appended _ c.args.writer.now
+    (g.met.W.Write.appends_nothing c.args.writer.now)
 
 pub returns-in-Err-clause-past_end : goal.returns-in-Err-clause-past_end
 returns-in-Err-clause-past_end g c = λ told well past.
     let stream = c.args.stream.now in
-    let seeks = c.in-Err.ensures.seeks in
-    (refl, λ other quiet. refused_past c.args.place (length (content_of stream).bytes) c.in-Err.e past (seeks.refused told well (seeks.cause told well other quiet)))
+    let seeks = c.in-Err.ensures.seeks in (
+      refl,
+      λ other quiet. refused_past c.args.place (length (content_of stream).bytes) c.in-Err.e past
+          (seeks.refused told well (seeks.cause told well other quiet)),
+    )
 
 pub returns-in-Ok-clause-part : goal.returns-in-Ok-clause-part
 returns-in-Ok-clause-part g c = λ told writer_told well.
@@ -70,7 +74,8 @@ returns-in-Err-clause-why g c = λ told well within quiet.
     let seeks = c.in-Err.ensures.seeks in
     inl (elim (memory_or_not c.in-Err.e) [
       | inl memory ↦ memory
-      | inr other ↦ absurd (never_refused c.args.place (length (content_of stream).bytes) c.in-Err.e within (seeks.refused told well (seeks.cause told well other quiet)))
+      | inr other ↦ absurd (never_refused c.args.place (length (content_of stream).bytes) c.in-Err.e within
+          (seeks.refused told well (seeks.cause told well other quiet)))
     ])
 
 pub returns-in-Err-clause-named : goal.returns-in-Err-clause-named
@@ -104,7 +109,8 @@ returns-in-Ok-clause-named g c =
 
 pub returns-in-Err-clause-standing : goal.returns-in-Err-clause-standing
 returns-in-Err-clause-standing g c = λ told writer_told.
-    standing-none g.S.Suite.seal_of g.W.Write.appended c.args.count c.args.place _ (payload_of c.args.stream.now) c.args.writer.now (g.met.W.Write.appends_nothing c.args.writer.now)
+    standing-none g.S.Suite.seal_of g.W.Write.appended c.args.count c.args.place _ (payload_of c.args.stream.now) c.args.writer.now
+    (g.met.W.Write.appends_nothing c.args.writer.now)
 
 pub returns-in-Ok-clause-standing : goal.returns-in-Ok-clause-standing
 returns-in-Ok-clause-standing g c = λ told writer_told.
@@ -112,8 +118,10 @@ returns-in-Ok-clause-standing g c = λ told writer_told.
     let seek = c.in-Ok.ensures in
     let new_told = seek.seeks.same_tells ∙ told in
     let there = seek.seeks.arrives told ∙ seek.seeks.leads told in
-    standing g.S.Suite.seal_of g.W.Write.appended c.args.count c.args.place (key_of stream) (payload_of stream) _ c.args.writer.now c.copy_some.new.writer
-    (stand-moved g.S.Suite.seal_of (key_of stream) _ (payload_of stream).bytes _ c.args.place _ _ seek.leaves.key (ap (λ s. s.bytes) (seek.leaves.payload told)) there (c.reader_law.ensures.stands new_told))
+    standing g.S.Suite.seal_of g.W.Write.appended c.args.count c.args.place (key_of stream)
+    (payload_of stream) _ c.args.writer.now c.copy_some.new.writer
+    (stand-moved g.S.Suite.seal_of (key_of stream) _ (payload_of stream).bytes _ c.args.place _ _ seek.leaves.key
+    (ap (λ s. s.bytes) (seek.leaves.payload told)) there (c.reader_law.ensures.stands new_told))
     (c.copy_some.ensures.front new_told writer_told)
 
 pub returns-in-Ok-clause-given : goal.returns-in-Ok-clause-given
@@ -125,9 +133,12 @@ returns-in-Ok-clause-given g c = λ told writer_told.
     let law = c.reader_law.ensures in
     on_ok_weaker c.copy_some.result
     (λ done.
-    given g.S.Suite.seal_of g.W.Write.appended c.args.count c.args.place (key_of stream) (payload_of stream) _ c.args.writer.now c.copy_some.new.writer
-    (stand-moved g.S.Suite.seal_of (key_of stream) _ (payload_of stream).bytes _ c.args.place _ _ seek.leaves.key (ap (λ s. s.bytes) (seek.leaves.payload told)) there (law.stands new_told))
-    (λ well. good-moved g.S.Suite.seal_of (key_of stream) _ (payload_of stream) _ c.args.place _ _ seek.leaves.key (seek.leaves.payload told) there (law.end new_told well)) done)
+    given g.S.Suite.seal_of g.W.Write.appended c.args.count c.args.place (key_of stream)
+    (payload_of stream) _ c.args.writer.now c.copy_some.new.writer
+    (stand-moved g.S.Suite.seal_of (key_of stream) _ (payload_of stream).bytes _ c.args.place _ _ seek.leaves.key
+    (ap (λ s. s.bytes) (seek.leaves.payload told)) there (law.stands new_told))
+    (λ well. good-moved g.S.Suite.seal_of (key_of stream) _ (payload_of stream) _ c.args.place _ _ seek.leaves.key
+    (seek.leaves.payload told) there (law.end new_told well)) done)
     (c.copy_some.ensures.part new_told writer_told)
 
 pub returns-in-Ok-clause-stands : goal.returns-in-Ok-clause-stands
@@ -144,7 +155,8 @@ returns-in-Ok-clause-stands g c = λ told well.
     on_ok_weaker c.copy_some.result
     (λ gives.
     let front = take c.args.count (plain_rest_of c.seek.new.self).bytes in
-    let came : Delivers front (from_place start content) (plain_rest_of new) = subst (λ (s : Stretch). Delivers front s (plain_rest_of new)) there.1 (gives.bytes new_told) in
+    let came : Delivers front (from_place start content) (plain_rest_of new) =
+    subst (λ (s : Stretch). Delivers front s (plain_rest_of new)) there.1 (gives.bytes new_told) in
     let moved : place_of new ≡ start + length front = gives.moves new_told ∙ ap (λ (n : ℕ). n + length front) (seeks.arrives told) in (
       moved ∙ ap (λ (n : ℕ). n + length front) (seeks.leads told) ∙ ap (λ (l : List ℕ). c.args.place + length (take c.args.count l)) rest,
       (delivered-at content (plain_rest_of new) start front came).1 ∙ ap (λ (n : ℕ). from_place n content) (sym moved),

@@ -25,7 +25,8 @@ pub returns-in_err-stream-clause-why : goal.returns-in_err-stream-clause-why
 returns-in_err-stream-clause-why g c = of_error _ _ c.in_err-stream.field-0.0 c.from_residual.ensures.1 (inl c.in_err-stream.ensures.memory)
 
 -- why copying from a reader of a payload refuses
-why_copied : {S R Some All Long : Type 0} (refuses : S → Error → Type 0) (below : R → Error → Type 0) (Own : Error → Type 0) (stream : S) (inner : R) (e : Error)
+why_copied : {S R Some All Long : Type 0} (refuses : S → Error → Type 0) (below : R → Error → Type 0) (Own : Error → Type 0) (stream : S)
+    (inner : R) (e : Error)
     → ((e : Error) → refuses stream e → Own e ⊎ TriedAgain below inner e) → (Own (Device Interrupted) → ⊥) → (Long → Own e)
     → ((e ≡ OutOfMemory) ⊎ TriedAgain refuses stream e ⊎ (Some × All)) ⊎ Long → (e ≡ OutOfMemory) ⊎ Some ⊎ Own e ⊎ TriedAgain below inner e
 why_copied refuses below Own stream inner e named patient too_long (inr long) = inr (inr (inl (too_long long)))
@@ -39,7 +40,8 @@ returns-clause-why g c =
     let read = g.R.Read in
     let reader = c.args.reader.now in
     let made = c.in_ok-stream.ensures.made in
-    let own = Stops g.S.Suite.seal_of c.args.key (from_place (read.place reader) (read.content reader)) (IsTrue (read.tells reader && read.steady reader)) in
+    let own = Stops g.S.Suite.seal_of c.args.key (from_place (read.place reader) (read.content reader))
+    (IsTrue (read.tells reader && read.steady reader)) in
     IfErr-weaker c.copy_all.result _ _
     (λ e why. why_copied refuses_of read.refuses own c.in_ok-stream.stream reader e made.named (λ s. s.is)
     (λ long. record { is = subst IsPayloadRefusal (sym long.0) tt; named = λ told. absurd (long.1 (made.tells ∙ told)) }) why)

@@ -27,7 +27,8 @@ returns-in_err-reader-clause-refused g c =
       | inl (same, (last, refuses)) ↦ inl (
         alone_same c.args.identity.now _ same,
         inr (lacks_front _ input last _ c.args.file.now refuses refl start c.in_ok-input.ensures.opens.place refl refl
-            (λ e. from_slice refuses_of input c.new.result _ _ c.args.file.now e c.new.ensures.content c.new.ensures.place c.in_ok-input.ensures.opens.named)),
+            (λ e. from_slice refuses_of input c.new.result _ _ c.args.file.now e c.new.ensures.content c.new.ensures.place
+            c.in_ok-input.ensures.opens.named)),
       )
       | inr (h, nonce, left, answer, asks, why) ↦ inr (record {
         h = h;
@@ -72,7 +73,8 @@ returns-in_err-read_to_end-clause-refused g c =
             ap (from_place (place_of after)) (asks.same.content refl)
             ∙ front-stands (armored_content input) (armored_rest input) (armored_rest after) (place_of input) (place_of after) opened.h opened.nonce
             (stands_armored input refl refl) (asks.front refl)) own))
-            (λ text. inl (from_slice refuses_of input c.new.result _ _ c.args.file.now e c.new.ensures.content c.new.ensures.place c.in_ok-input.ensures.opens.named text))
+            (λ text. inl (from_slice refuses_of input c.new.result _ _ c.args.file.now e c.new.ensures.content c.new.ensures.place
+            c.in_ok-input.ensures.opens.named text))
             (from_stream stream_refuses refuses_of _ c.in_ok-reader.reader after input e opens.reader.named (λ s. s.is) asks.narrows tried))
             read.keeps.why),
       );
@@ -95,7 +97,8 @@ returns-clause-success g c =
       carries = carries each;
       file_key = opened.file_key;
       stanzas = opened.h.stanzas;
-      given = alone_is (λ identity own next. Unwraps g.I.Identity.unwraps identity opened.h.stanzas own next) c.args.identity.now _ _ opened.asks.first;
+      given = alone_is (λ identity own next. Unwraps g.I.Identity.unwraps identity opened.h.stanzas own next) c.args.identity.now _ _
+          opened.asks.first;
       bytes = search rules;
       is_file = file.1;
     }

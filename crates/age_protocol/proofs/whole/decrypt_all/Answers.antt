@@ -60,7 +60,16 @@ returns-in_err-stream g c =
           ))
           (λ asked.
           let (h, nonce, input, answer, asks, why) = asked in
-          inr (h, nonce, _, answer, begins_text g.R.Read.tells g.R.Read.rest c.args.reader.now h nonce _ _ _ _ _ text.tells text.place text.rest asks.front, asks.first, why))
+          inr (
+            h,
+            nonce,
+            _,
+            answer,
+            begins_text g.R.Read.tells g.R.Read.rest c.args.reader.now h nonce _ _ _ _ _ text.tells text.place text.rest
+                asks.front,
+            asks.first,
+            why,
+          ))
           c.in_err-stream.ensures.refused);
       io = of_error _ _ _ is tt;
       written = λ told well never file plain carries for. of_error _ _ _ is tt;
@@ -69,7 +78,8 @@ returns-in_err-stream g c =
           let rest : armored_rest c.in_ok-text.text ≡ whole file = text.honest file well carries in
           of_error _ _ _ is
           (c.in_err-stream.ensures.plaintext (both_told _ _ _ _ text.tells text.steady told) (ap (λ s. s.ends_well) rest) plain
-          (file_for g.S.Suite.seal_of _ plain file (armored_rest c.in_ok-text.text).bytes (sym (ap (λ s. s.bytes) rest)) for) (λ t. never t.source.inner.inner.now));
+          (file_for g.S.Suite.seal_of _ plain file (armored_rest c.in_ok-text.text).bytes (sym (ap (λ s. s.bytes) rest)) for)
+          (λ t. never t.source.inner.inner.now));
       plaintext = λ told well writer_told file plain carries for.
           none-copied g.W.Write.appended _ c.args.writer.now (g.met.W.Write.appends_nothing c.args.writer.now);
     }
@@ -113,11 +123,13 @@ returns-in_err-copy_all g c =
                 let text_told = both_told _ _ _ _ text.tells text.steady reader_told in
                 let t = and-left _ _ text_told in
                 ap (from_place (place_of made.input)) (asks.same.content t)
-                ∙ front-stands (armored_content c.in_ok-text.text) (armored_rest c.in_ok-text.text) left (place_of c.in_ok-text.text) (place_of made.input) made.h made.nonce
+                ∙ front-stands (armored_content c.in_ok-text.text) (armored_rest c.in_ok-text.text) left (place_of c.in_ok-text.text)
+                (place_of made.input) made.h made.nonce
                 (stands_armored c.in_ok-text.text t (and-right _ _ text_told)) (asks.front t)) own,
           )))
           (λ armored. inl (inr (from_text armor_refuses g.R.Read c.in_ok-text.text reader e text.named armored)))
-          (from_stream refuses_of armor_refuses _ c.in_ok-stream.stream made.input c.in_ok-text.text e made.opens.reader.named (λ s. s.is) asks.narrows tried))
+          (from_stream refuses_of armor_refuses _ c.in_ok-stream.stream made.input c.in_ok-text.text e made.opens.reader.named
+          (λ s. s.is) asks.narrows tried))
           (λ writes. inr (inl writes.0))))
           (λ long. inr (inr (
             made.file_key,
@@ -129,7 +141,8 @@ returns-in_err-copy_all g c =
             made.opens.right,
             record {
               is = subst IsPayloadRefusal (sym long.0) tt;
-              named = λ reader_told. absurd (long.1 (made.opens.reader.tells ∙ both_told _ _ _ _ asks.same.tells asks.same.steady (both_told _ _ _ _ text.tells text.steady reader_told)));
+              named = λ reader_told. absurd (long.1 (made.opens.reader.tells
+                  ∙ both_told _ _ _ _ asks.same.tells asks.same.steady (both_told _ _ _ _ text.tells text.steady reader_told)));
             },
           )))
           c.in_err-copy_all.ensures.named);
@@ -148,7 +161,8 @@ returns-in_err-copy_all g c =
           let text_told = both_told _ _ _ _ text.tells text.steady reader_told in
           let told = both_told _ _ _ _ asks.same.tells asks.same.steady text_told in
           let copied = rw made.opens.reader.rest at (c.in_err-copy_all.ensures.front (made.opens.reader.tells ∙ told) writer_told) in
-          let begins = begins_text g.R.Read.tells g.R.Read.rest c.args.reader.now made.h made.nonce _ _ _ _ _ text.tells text.place text.rest asks.front in
+          let begins = begins_text g.R.Read.tells g.R.Read.rest c.args.reader.now made.h made.nonce _ _ _ _ _ text.tells text.place text.rest
+          asks.front in
           inr (made.file_key, made.h, made.nonce, _, begins, asks.first, made.opens.right, copied);
       honest = λ told well never file plain carries for. of_error _ _ _ is tt;
       plaintext = λ told well writer_told file plain carries for.
@@ -199,7 +213,8 @@ returns g c =
           let text_told = both_told _ _ _ _ text.tells text.steady reader_told in
           let told = both_told _ _ _ _ asks.same.tells asks.same.steady text_told in
           let copied = rw made.opens.reader.rest at (c.in_ok-copy_all.ensures.front (made.opens.reader.tells ∙ told) writer_told) in
-          let begins = begins_text g.R.Read.tells g.R.Read.rest c.args.reader.now made.h made.nonce _ _ _ _ _ text.tells text.place text.rest asks.front in
+          let begins = begins_text g.R.Read.tells g.R.Read.rest c.args.reader.now made.h made.nonce _ _ _ _ _ text.tells text.place text.rest
+          asks.front in
           inr (made.file_key, made.h, made.nonce, _, begins, asks.first, made.opens.right, copied);
       honest = λ told well never file plain carries for. tt;
       plaintext = λ told well writer_told file plain carries for.

@@ -8,7 +8,8 @@ use Rattle.std.proofs.Common.{List, ℕ}
 use Rattle.age_protocol.proofs.whole.encrypt_all.Goals as goal
 
 -- either form of the text carries it
-carried_by : (format : Format) (text : List ℕ) → AreBytes text → (AreBytes text → Carries text text) → (AreBytes text → Carries (armor text) text) → Carries (text_of format text) text
+carried_by : (format : Format) (text : List ℕ) → AreBytes text → (AreBytes text → Carries text text) → (AreBytes text → Carries (armor text) text)
+    → Carries (text_of format text) text
 carried_by Binary text bytes itself armored = itself bytes
 carried_by AsciiArmor text bytes itself armored = armored bytes
 
@@ -26,7 +27,8 @@ returns-in-Ok-clause-file g c = λ reader_told writer_told.
         within = within;
         is_file = (rw c.in-Ok.is at written.is_file) plain;
         carries = λ bytes. carried_by c.args.format text ((rw c.in-Ok.is at written.bytes) plain bytes)
-            (λ are. c.files_carry_themselves.ensures _ _ _ text are ((rw c.in-Ok.is at written.is_file) plain)) (λ are. c.armor_is_carrying.ensures.itself text are);
+            (λ are. c.files_carry_themselves.ensures _ _ _ text are ((rw c.in-Ok.is at written.is_file) plain))
+            (λ are. c.armor_is_carrying.ensures.itself text are);
         out = search rules;
       },
     )

@@ -18,10 +18,17 @@ returns-in-Ok-Some g c =
     let number = c.args.number in
     let (many, opens) = (rw c.in-Ok-Some.field-0-is at c.in-Ok-Some.ensures) in
     let full = length-take-le 65552 rest many in
-    let long = opened_length g.S.Suite.seal_of g.S.Suite.opened g.met.S.Suite.cipher key (chunk_nonce number false) (take 65552 rest) c.in-Ok-Some.piece.items
+    let long = opened_length g.S.Suite.seal_of g.S.Suite.opened g.met.S.Suite.cipher key (chunk_nonce number false)
+    (take 65552 rest) c.in-Ok-Some.piece.items
     c.known_array.ensures
     (rw c.nonce_of.ensures at c.known_array-2.ensures) (All-take (λ x. x < 2 ^ 8) 65552 rest c.known_bytes.ensures) opens in
-    inr (refl, many, (omega arith), middle_delivers g.S.Suite.opened key number rest c.in-Ok-Some.piece.items many opens (omega (arith, long, full)) (omega arith))
+    inr (
+      refl,
+      many,
+      (omega arith),
+      middle_delivers g.S.Suite.opened key number rest c.in-Ok-Some.piece.items many opens
+          (omega (arith, long, full)) (omega arith),
+    )
 
 pub returns-in-Ok : goal.returns-in-Ok
 returns-in-Ok g c =

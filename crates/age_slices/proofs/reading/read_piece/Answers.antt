@@ -5,7 +5,8 @@ use Rattle.age_slices.proofs.reading.read_piece.Goals as goal
 
 pub returns-then-number-last : goal.returns-then-number-last
 returns-then-number-last g c =
-    past_end g.S.Suite.seal_of g.S.Suite.opened g.met.S.Suite.cipher c.args.key.now c.known_array.ensures c.args.number c.args.sealed.now (omega arith)
+    past_end g.S.Suite.seal_of g.S.Suite.opened g.met.S.Suite.cipher c.args.key.now c.known_array.ensures c.args.number c.args.sealed.now
+    (omega arith)
 
 pub returns : goal.returns
 returns g c =

@@ -14,7 +14,8 @@ returns g c = record {
   close = λ start before key plain first after made given same sent. elim (cases_Bool before.failed) [
     | inl failed ↦ subst (λ w. AppendsFront g.W.Write.appended (payload g.S.Suite.seal_of key plain) first w) (sym (same failed))
         (rw append-nil at (sends-front_of_payload g.S.Suite.seal_of g.W.Write.appended start before key plain [] first made given))
-    | inr good ↦ sealed-front g.S.Suite.seal_of g.W.Write.appended g.met.W.Write.joins before after (omega (arith, before.one_piece, before.held.ok.0)) good sent
+    | inr good ↦ sealed-front g.S.Suite.seal_of g.W.Write.appended g.met.W.Write.joins before after
+        (omega (arith, before.one_piece, before.held.ok.0)) good sent
         start key plain first made given
   ];
 }

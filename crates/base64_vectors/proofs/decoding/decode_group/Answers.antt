@@ -20,4 +20,5 @@ returns-clause-decoded c right =
     let paired = c.pairs_of.ensures small in
     let grouped = c.groups_of.ensures (pairs_below indices c.pairs_of.result long small paired) in
     group_decoded columns c.bytes_of.result c.bytes_of.ensures.length fits right
-    (indices_of_bytes indices c.pairs_of.result c.groups_of.result c.bytes_of.result long c.bytes_of.ensures.length small paired grouped c.bytes_of.ensures.bytes ∙ is)
+    (indices_of_bytes indices c.pairs_of.result c.groups_of.result c.bytes_of.result long c.bytes_of.ensures.length small paired grouped
+    c.bytes_of.ensures.bytes ∙ is)

@@ -11,9 +11,11 @@ returns-clause-length c =
 pub returns-clause-decoded : goal.returns-clause-decoded
 returns-clause-decoded c is =
     let (ha, hb, hc, hd) = c.are_symbols.ensures.right is in
-    line_decoded c.args.columns.now c.write_line.new.bytes c.decode_group.result c.decode_group-2.result c.decode_group-3.result c.decode_group-4.result c.requires.0
+    line_decoded c.args.columns.now c.write_line.new.bytes c.decode_group.result c.decode_group-2.result c.decode_group-3.result
+    c.decode_group-4.result c.requires.0
     c.decode_group.ensures.length c.decode_group-2.ensures.length c.decode_group-3.ensures.length c.write_line.ensures
-    (c.decode_group.ensures.decoded ha) (c.decode_group-2.ensures.decoded hb) (c.decode_group-3.ensures.decoded hc) (c.decode_group-4.ensures.decoded hd)
+    (c.decode_group.ensures.decoded ha) (c.decode_group-2.ensures.decoded hb) (c.decode_group-3.ensures.decoded hc)
+    (c.decode_group-4.ensures.decoded hd)
 
 pub returns-clause-taken : goal.returns-clause-taken
 returns-clause-taken c content bytes long is =

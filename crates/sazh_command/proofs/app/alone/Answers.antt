@@ -11,6 +11,7 @@ returns c =
     let to = with_more with_encrypting (with_kinds bare) _ c.in_ok-to.to kinds c.in_ok-to.ensures in
     let with = with_more with_opening (with_encrypting (with_kinds bare)) _ c.in_ok-with.with to c.in_ok-with.ensures in
     let out = with_more with_output (with_opening (with_encrypting (with_kinds bare))) _ c.in_ok-out.out with c.in_ok-out.ensures in
-    let quiet = with_more with_quiet (with_output (with_opening (with_encrypting (with_kinds bare)))) _ c.in_ok-with_quiet.field-0 out c.in_ok-with_quiet.ensures in
+    let quiet = with_more with_quiet (with_output (with_opening (with_encrypting (with_kinds bare)))) _ c.in_ok-with_quiet.field-0 out
+    c.in_ok-with_quiet.ensures in
     with_options (with_quiet (with_output (with_opening (with_encrypting (with_kinds bare))))) _ c.input.result input_rule c.arg.result quiet
     c.input.ensures c.arg.ensures

@@ -11,4 +11,5 @@ returns c =
     let to = with_more with_output bare _ c.in_ok-to.to c.named-keygen.ensures c.in_ok-to.ensures in
     let quiet = with_more with_quiet (with_output bare) _ c.in_ok-with_quiet.field-0 to c.in_ok-with_quiet.ensures in
     let first = with_option (with_quiet (with_output bare)) _ c.in_ok-arg.field-0 c.flag.result recipients quiet c.flag.ensures c.in_ok-arg.ensures in
-    with_options (with_rule (with_quiet (with_output bare)) recipients) _ c.input.result input_rule c.arg-2.result first c.input.ensures c.arg-2.ensures
+    with_options (with_rule (with_quiet (with_output bare)) recipients) _ c.input.result input_rule c.arg-2.result first c.input.ensures
+    c.arg-2.ensures

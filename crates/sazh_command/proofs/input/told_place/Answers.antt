@@ -7,7 +7,8 @@ use Rattle.sazh_command.proofs.input.told_place.Goals as goal
 one_told : (a b : List ℕ) → codes "pos:\t" ++ a ≡ codes "pos:\t" ++ b → a ≡ b
 one_told a b same = ap (λ l. drop 5 l) same
 
-tells : (r : Option ℕ) (text told digits : List ℕ) → r ≡ number_of digits → digits ≡ first_line told → text ≡ codes "pos:\t" ++ told → HasLine told → TellsPlace text r
+tells : (r : Option ℕ) (text told digits : List ℕ) → r ≡ number_of digits → digits ≡ first_line told → text ≡ codes "pos:\t" ++ told
+    → HasLine told → TellsPlace text r
 tells None text told digits is first begins line = λ other begins_other _.
     ap (λ l. number_of (first_line l)) (one_told other told (sym begins_other ∙ begins)) ∙ ap number_of (sym first) ∙ sym is
 tells (Some n) text told digits is first begins line = (told, begins, line, ap number_of (sym first) ∙ sym is)

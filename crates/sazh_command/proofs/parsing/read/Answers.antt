@@ -19,5 +19,6 @@ returns-in-Err c =
     let words = map string_bytes c.args.words.now in
     let some : (length words == 0) ≡ false =
     ap (λ n. n == 0) (length-map c.args.words.now string_bytes) ∙ sym c.is_empty.ensures ∙ c.if-is_empty.false in
-    IfOk-weaker c.refusal_of.result _ _ (λ answer told. read_refused words (app_of c.in_ok-sazh.field-0) c.in-Err.error answer some c.in_ok-sazh.ensures.0
+    IfOk-weaker c.refusal_of.result _ _ (λ answer told. read_refused words
+    (app_of c.in_ok-sazh.field-0) c.in-Err.error answer some c.in_ok-sazh.ensures.0
     c.in-Err.ensures.kinds told) c.refusal_of.ensures

@@ -15,18 +15,21 @@ pub returns-in-Rekey : goal.returns-in-Rekey
 returns-in-Rekey c =
     let call = c.opening_names_secret-in_others in
     let files = c.any_file_holds_secret-in_recipients in
-    rw c.in-Rekey.is (either files.result call.result _ _ (subst (λ l. (files.result ≡ true) ↔ AnyFileHoldsSecret (map recipient_value l)) c.as_slice.ensures.value files.ensures)
+    rw c.in-Rekey.is (either files.result call.result _ _
+    (subst (λ l. (files.result ≡ true) ↔ AnyFileHoldsSecret (map recipient_value l)) c.as_slice.ensures.value files.ensures)
     (subst (λ w. (call.result ≡ true) ↔ OpeningNamesSecret (opening_value c.in-Rekey.opening) w (output_value c.in-Rekey.output))
     c.as_str-in-Rekey.ensures.value call.ensures))
 
 pub returns-in-Decrypt : goal.returns-in-Decrypt
 returns-in-Decrypt c =
     let call = c.opening_names_secret in
-    rw c.in-Decrypt.is (subst (λ w. (call.result ≡ true) ↔ OpeningNamesSecret (opening_value c.in-Decrypt.opening) w (output_value c.in-Decrypt.output))
+    rw c.in-Decrypt.is (subst (λ w. (call.result ≡ true) ↔ OpeningNamesSecret (opening_value c.in-Decrypt.opening) w
+    (output_value c.in-Decrypt.output))
     c.as_str-in-Decrypt.ensures.value call.ensures)
 
 pub returns-in-Migrate : goal.returns-in-Migrate
 returns-in-Migrate c =
     let call = c.opening_names_secret-in-Migrate in
-    rw c.in-Migrate.is (subst (λ w. (call.result ≡ true) ↔ OpeningNamesSecret (opening_value c.in-Migrate.opening) w (output_value c.in-Migrate.output))
+    rw c.in-Migrate.is (subst (λ w. (call.result ≡ true) ↔ OpeningNamesSecret (opening_value c.in-Migrate.opening) w
+    (output_value c.in-Migrate.output))
     c.as_str-in-Migrate.ensures.value call.ensures)

@@ -8,5 +8,6 @@ returns-in-Ok-clause-file g c = λ reader_told writer_told.
       plain = done.plain;
       ended = done.ended;
       file = done.file;
-      out = appended_flushed g.W.Write g.met.W.Write.joins writer_told c.args.writer.now _ c.flushed.new.writer done.plain c.flushed.result done.out c.flushed.ensures;
+      out = appended_flushed g.W.Write g.met.W.Write.joins writer_told c.args.writer.now _ c.flushed.new.writer done.plain c.flushed.result
+          done.out c.flushed.ensures;
     })

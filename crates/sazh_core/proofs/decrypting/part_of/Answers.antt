@@ -27,7 +27,8 @@ returns-in-Err-open_file g c =
           let rest = text.honest file well carries in
           refused_before g.W.Write.appended g.W.Write.refuses _ c.args.place c.args.count plain c.args.writer.now c.in-Err-open_file.error
           (g.met.W.Write.appends_nothing c.args.writer.now)
-          (λ still. c.in-Err-open_file.ensures.plaintext (both_told _ _ _ _ text.tells text.steady told) (ap (λ (s : Stretch). s.ends_well) rest) plain
+          (λ still. c.in-Err-open_file.ensures.plaintext (both_told _ _ _ _ text.tells text.steady told)
+          (ap (λ (s : Stretch). s.ends_well) rest) plain
           (file_for g.S.Suite.seal_of _ plain file _ (sym (ap (λ (s : Stretch). s.bytes) rest)) for) (λ t. still t.source.inner.inner));
       standing = λ told writer_told. inl refl;
       given = λ told writer_told. tt;
@@ -54,7 +55,8 @@ returns-in-Err-write_part g c =
           (file_for g.S.Suite.seal_of _ plain file _ (sym (ap (λ (s : Stretch). s.bytes) rest)) for) in
           let stream_told = made.tells ∙ text_told in
           let ends_well = ap (λ (s : Stretch). s.ends_well) stands.content in
-          part_refused g.W.Write.appended g.W.Write.refuses _ c.args.place c.args.count plain (content_of c.in-Ok-open_file.stream) _ _ c.args.writer.now
+          part_refused g.W.Write.appended g.W.Write.refuses _ c.args.place c.args.count plain
+          (content_of c.in-Ok-open_file.stream) _ _ c.args.writer.now
           c.write_part.new.writer c.in-Err-write_part.error stands.content (λ still. never_fails g.R.Read.faults _ _ still)
           (writes.front stream_told writer_told ends_well) (λ past. writes.past_end stream_told ends_well past)
           (λ within quiet. writes.why stream_told ends_well within quiet);

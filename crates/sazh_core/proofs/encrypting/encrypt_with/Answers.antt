@@ -6,7 +6,8 @@ returns-in-Ok g c = record {
   file = λ reader_told writer_told.
       let (file, prepares, appends) = c.in-Ok.ensures.file reader_told writer_told in (
         file,
-        prepares_from g.B.RandomBytes.gives g.T.Recipient.wraps c.args.recipients.now c.args.count c.args.source.now c.drawn.new.source c.in_ok-draw.draw _ _ _
+        prepares_from g.B.RandomBytes.gives g.T.Recipient.wraps c.args.recipients.now c.args.count c.args.source.now c.drawn.new.source
+            c.in_ok-draw.draw _ _ _
             c.in_ok-grease.ensures.value c.in_ok-draw.ensures prepares,
         appends,
       );
@@ -29,6 +30,7 @@ returns g c = record {
       front_from g.B.RandomBytes.gives g.T.Recipient.wraps _ c.args.recipients.now c.args.count c.args.source.now c.drawn.new.source
       c.in_ok-draw.draw _ _ c.in_ok-grease.ensures.value c.in_ok-draw.ensures c.in-Err.error (c.in-Err.ensures.front reader_told writer_told);
   io =
-      io_from g.B.RandomBytes.gives g.T.Recipient.wraps _ c.args.recipients.now c.args.count c.args.source.now c.drawn.new.source c.in_ok-draw.draw _ _
+      io_from g.B.RandomBytes.gives g.T.Recipient.wraps _ c.args.recipients.now c.args.count c.args.source.now c.drawn.new.source
+      c.in_ok-draw.draw _ _
       c.in_ok-grease.ensures.value c.in_ok-draw.ensures c.in-Err.error c.in-Err.ensures.io;
 }

@@ -7,4 +7,8 @@ returns-in-Ok-encrypt_to_keys g c =
 
 pub returns : goal.returns
 returns g c =
-    inr (c.in-Ok.keys.items, c.in-Ok.ensures, (Err c.in-Err-encrypt_to_keys.error, rw c.deref.ensures.value at c.in-Err-encrypt_to_keys.ensures, refl))
+    inr (
+      c.in-Ok.keys.items,
+      c.in-Ok.ensures,
+      (Err c.in-Err-encrypt_to_keys.error, rw c.deref.ensures.value at c.in-Err-encrypt_to_keys.ensures, refl),
+    )

@@ -8,7 +8,8 @@ returns-in-Ok-clause-steps g c =
 
 pub returns-in-Ok-clause-file : goal.returns-in-Ok-clause-file
 returns-in-Ok-clause-file g c =
-    verified _ g.S.Suite _ _ c.args.keyring.now g.R.Read c.args.reader.now c.decrypt_by.new.reader c.new-plaintext.result c.decrypt_by.new.writer c.in-Ok.field-0
+    verified _ g.S.Suite _ _ c.args.keyring.now g.R.Read c.args.reader.now c.decrypt_by.new.reader c.new-plaintext.result c.decrypt_by.new.writer
+    c.in-Ok.field-0
     c.finish.result (λ w. refl) (λ x took. took) c.new-plaintext.ensures c.finish.ensures c.in-Ok.ensures
 
 pub returns-in-Err-clause-steps : goal.returns-in-Err-clause-steps

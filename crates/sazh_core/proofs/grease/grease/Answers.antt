@@ -3,4 +3,5 @@ use Rattle.std.proofs.lemmas.Bool.{false≢true}
 use Rattle.sazh_core.proofs.grease.grease.Goals as goal
 
 pub unreachable-requires-in-None : goal.unreachable-requires-in-None
-unreachable-requires-in-None c = false≢true (c.in-None.ensures.exactly.1 (codes "sazh", ap (λ s. s.tag) c.in-Some.ensures.value ∙ c.in_ok-tag.ensures.ok))
+unreachable-requires-in-None c = false≢true
+    (c.in-None.ensures.exactly.1 (codes "sazh", ap (λ s. s.tag) c.in-Some.ensures.value ∙ c.in_ok-tag.ensures.ok))

@@ -15,7 +15,8 @@ pub returns-in-Err-copy_all : goal.returns-in-Err-copy_all
 returns-in-Err-copy_all g c = λ zero.
     record {
       exact = λ told. tt;
-      refused = rest_refused g.T.Read (inner_of c.args.text.now) (inner_of c.read.new.reader) c.new-rest.result c.count-in-Err-copy_all.result c.in-Err-copy_all.why
+      refused = rest_refused g.T.Read (inner_of c.args.text.now)
+          (inner_of c.read.new.reader) c.new-rest.result c.count-in-Err-copy_all.result c.in-Err-copy_all.why
           c.new-rest.ensures c.in-Ok.ensures.narrows c.in-Ok.ensures.keeps.tells (λ told.
           let read = c.in-Ok.ensures.header told in
           let tells = c.in-Ok.ensures.keeps.tells ∙ told in
@@ -47,7 +48,8 @@ returns-in-Ok-copy_all g c = λ zero.
             header_length = Prim.omega (arith, zero, read.moved, c.count-header_length.ensures tells);
             rest_length = Prim.omega (arith, copied.1, c.new-rest.ensures, c.count-in-Ok-copy_all.ensures);
             rule = rw c.stanzas.ensures.stanzas at c.keeps_scrypt_rule.ensures;
-            lengths = subst (λ n. AreLengths n c.lengths_of.result) (Prim.omega (arith, copied.1, c.new-rest.ensures, c.count-in-Ok-copy_all-2.ensures)) c.lengths_of.ensures;
+            lengths = subst (λ n. AreLengths n c.lengths_of.result)
+                (Prim.omega (arith, copied.1, c.new-rest.ensures, c.count-in-Ok-copy_all-2.ensures)) c.lengths_of.ensures;
           };
       refused = tt;
     }

@@ -36,7 +36,8 @@ returns-in-Err-flush_retrying g c =
             c.in_ok-draw.draw,
             gave,
             all_of g.W.Write.appended _ _ c.args.writer.now c.flush_retrying.new.writer is
-                (then_none g.W.Write.appended g.met.W.Write.joins _ _ _ _ _ refl (writes.takes_all told) (flushes.nothing (writes.same_tells ∙ told))),
+                (then_none g.W.Write.appended g.met.W.Write.joins _ _ _ _ _ refl (writes.takes_all told)
+                (flushes.nothing (writes.same_tells ∙ told))),
           );
       random = tt;
       refused = λ none. absurd none;
@@ -53,13 +54,19 @@ returns g c =
     let writes = c.in-Ok.ensures.writes in
     let flushes = c.in-Ok-flush_retrying.ensures.flushes in
     record {
-      key = λ told. (c.in_ok-draw.draw, gave, then_none g.W.Write.appended g.met.W.Write.joins _ _ _ _ _ is (writes.takes_all told) (flushes.nothing (writes.same_tells ∙ told)));
+      key = λ told. (
+        c.in_ok-draw.draw,
+        gave,
+        then_none g.W.Write.appended g.met.W.Write.joins _ _ _ _ _ is (writes.takes_all told)
+            (flushes.nothing (writes.same_tells ∙ told)),
+      );
       front = λ told.
           inr (
             c.in_ok-draw.draw,
             gave,
             all_of g.W.Write.appended _ _ c.args.writer.now c.flush_retrying.new.writer is
-                (then_none g.W.Write.appended g.met.W.Write.joins _ _ _ _ _ refl (writes.takes_all told) (flushes.nothing (writes.same_tells ∙ told))),
+                (then_none g.W.Write.appended g.met.W.Write.joins _ _ _ _ _ refl (writes.takes_all told)
+                (flushes.nothing (writes.same_tells ∙ told))),
           );
       random = tt;
       refused = tt;

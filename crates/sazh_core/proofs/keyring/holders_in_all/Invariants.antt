@@ -14,6 +14,7 @@ use Rattle.sazh_core.proofs.keyring.holders_in_all.Given as goal
 abbrev pub invariant-loop-i : goal.invariant-loop-i
 invariant-loop-i g l =
     let row = bytes_reader.the_row static_lft in
-    AreOfFiles (armored.ghosts (buffered_reader.the_row row bytes.ghosts) (buffered.ghosts row bytes.ghosts bytes.dict) (buffered.dict row bytes.ghosts bytes.dict)
+    AreOfFiles (armored.ghosts (buffered_reader.the_row row bytes.ghosts) (buffered.ghosts row bytes.ghosts bytes.dict)
+    (buffered.dict row bytes.ghosts bytes.dict)
     (buffered_read.ghosts row bytes.ghosts bytes.dict) (buffered_read.dict row bytes.ghosts bytes.dict))
     (take l.i l.fn.files) (option_map (λ t. t.now) l.fn.passphrase) l.holders.items

@@ -9,7 +9,8 @@ returns-in-Err g c =
     let writes = c.in-Err.ensures.writes in
     record {
       written = λ told. tt;
-      front = λ told. let (n, fits, out) = writes.takes_front told in front_of g.W.Write.appended n _ _ c.args.writer.now c.write_all.new.writer refl out;
+      front = λ told. let (n, fits, out) = writes.takes_front told in
+          front_of g.W.Write.appended n _ _ c.args.writer.now c.write_all.new.writer refl out;
       why = inr (_, writes.why);
     }
 

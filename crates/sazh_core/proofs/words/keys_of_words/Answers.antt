@@ -7,7 +7,8 @@ pub returns-in-Err : goal.returns-in-Err
 returns-in-Err g c =
     let word = c.index-words-i.result in
     let is : word ≡ get_or c.args.words.now c.loop-i.i word = c.index-words-i.is in
-    inr (first_refused g.S.Suite.public_of _ _ c.args.words.now c.loop-i.i word _ c.in-Err.error c.loop-i-test.true c.loop-i.invariant (rw is at c.in-Err.ensures))
+    inr (first_refused g.S.Suite.public_of _ _ c.args.words.now c.loop-i.i word _ c.in-Err.error c.loop-i-test.true c.loop-i.invariant
+    (rw is at c.in-Err.ensures))
 
 pub loop-i-preserved : goal.loop-i-preserved
 loop-i-preserved g c =

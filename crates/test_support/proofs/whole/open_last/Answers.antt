@@ -42,7 +42,8 @@ returns-then-is_empty-clause-err g c =
     refused_at g.S.Suite.seal_of g.S.Suite.opened g.met.S.Suite.cipher c.args.key.now key c.args.sealed.now bytes
     c.args.i c.args.out.items LastChunkEmpty c.requires.opened c.requires.reach (
       omega arith,
-      held_empty g.S.Suite.seal_of g.S.Suite.opened g.met.S.Suite.cipher c.args.key.now key c.args.sealed.now bytes c.args.i c.in-Some.piece.items none held,
+      held_empty g.S.Suite.seal_of g.S.Suite.opened g.met.S.Suite.cipher c.args.key.now key c.args.sealed.now bytes c.args.i c.in-Some.piece.items
+          none held,
     )
 
 pub returns-then-i-ge-MOST_CHUNKS-clause-err : goal.returns-then-i-ge-MOST_CHUNKS-clause-err

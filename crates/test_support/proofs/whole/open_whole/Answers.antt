@@ -28,10 +28,13 @@ returns-then-i-ge-MOST_CHUNKS-clause-err g c =
     let bytes = slice-bytes c.args.sealed.now c.type_inv.sealed in
     let some : g.S.Suite.opened c.args.key.now (chunk_nonce c.loop-i.i false) (chunk c.loop-i.i c.args.sealed.now) ≡ Some c.in-Some.piece.items =
     sym (rw (c.nonce_of.ensures, c.chunk_at.ensures, c.in-Some.is) at c.in_ok-open.ensures.value) in
-    let held = held_middle g.S.Suite.seal_of g.S.Suite.opened g.met.S.Suite.cipher c.args.key.now key c.args.sealed.now bytes c.loop-i.i c.in-Some.piece.items (omega arith) some in
-    let size = middle_plain-size g.S.Suite.seal_of g.S.Suite.opened g.met.S.Suite.cipher c.args.key.now key c.args.sealed.now bytes c.loop-i.i c.in-Some.piece.items held in
+    let held = held_middle g.S.Suite.seal_of g.S.Suite.opened g.met.S.Suite.cipher c.args.key.now key c.args.sealed.now bytes c.loop-i.i
+    c.in-Some.piece.items (omega arith) some in
+    let size = middle_plain-size g.S.Suite.seal_of g.S.Suite.opened g.met.S.Suite.cipher c.args.key.now key c.args.sealed.now bytes c.loop-i.i
+    c.in-Some.piece.items held in
     refused_at g.S.Suite.seal_of g.S.Suite.opened g.met.S.Suite.cipher c.args.key.now key c.args.sealed.now bytes
-    c.loop-i.i c.loop-i.out.items TooLong c.loop-i.invariant.opened c.loop-i.invariant.reach (omega arith, (c.in-Some.piece.items, omega arith, inl held))
+    c.loop-i.i c.loop-i.out.items TooLong c.loop-i.invariant.opened c.loop-i.invariant.reach
+    (omega arith, (c.in-Some.piece.items, omega arith, inl held))
 
 pub loop-i-preserved : goal.loop-i-preserved
 loop-i-preserved g c =
@@ -41,7 +44,8 @@ loop-i-preserved g c =
     sym (rw (c.nonce_of.ensures, c.chunk_at.ensures, c.in-Some.is) at c.in_ok-open.ensures.value) in
     let out = c.in_ok-extend_from_slice-in-Some.ensures.items in
     record {
-      opened = rw (out, c.deref.ensures.value) (opened_more g.S.Suite.seal_of g.S.Suite.opened g.met.S.Suite.cipher c.args.key.now key c.args.sealed.now bytes
+      opened = rw (out, c.deref.ensures.value)
+          (opened_more g.S.Suite.seal_of g.S.Suite.opened g.met.S.Suite.cipher c.args.key.now key c.args.sealed.now bytes
           c.loop-i.i c.loop-i.out.items c.in-Some.piece.items c.loop-i.invariant.opened (omega arith) some);
       reach = omega arith;
       counted = λ fits.

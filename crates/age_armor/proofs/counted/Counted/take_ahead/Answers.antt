@@ -12,5 +12,6 @@ returns-clause-full g c = λ told.
     let before = c.args.self.now in
     let width : before.next + 48 - before.next ≡ 48 = omega arith in
     let copied = rw width at c.copy_from_slice.ensures.after in
-    ahead_taken before.ahead (g.R.BufRead.shown before.inner) c.copy_from_slice.new.self before.next before.left (g.R.Read.rest before.inner) (g.R.Read.rest c.consume.new.self)
+    ahead_taken before.ahead (g.R.BufRead.shown before.inner) c.copy_from_slice.new.self before.next before.left (g.R.Read.rest before.inner)
+    (g.R.Read.rest c.consume.new.self)
     before.shows c.requires copied c.known_bytes.ensures (c.consume.ensures.bytes told)

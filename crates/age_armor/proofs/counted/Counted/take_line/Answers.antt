@@ -77,8 +77,10 @@ returns-then-is_empty g c =
         counts = omega (arith, loop.lines);
       };
       taken = search rules;
-      line = λ told. taken_none c.runs.line.items c.take_run-answer.new.line.items (g.R.Read.rest c.args.self.now.inner) (g.R.Read.rest c.runs.self.inner)
-          (g.R.Read.rest c.take_run-answer.new.reader) (loop.unended told) (loop.so_far told) (rw c.in-Nothing.is at (now.run (loop.same.tells ∙ told)));
+      line = λ told. taken_none c.runs.line.items c.take_run-answer.new.line.items (g.R.Read.rest c.args.self.now.inner)
+          (g.R.Read.rest c.runs.self.inner)
+          (g.R.Read.rest c.take_run-answer.new.reader) (loop.unended told) (loop.so_far told)
+          (rw c.in-Nothing.is at (now.run (loop.same.tells ∙ told)));
       why = tt;
       cause = λ told. tt;
     }
@@ -96,8 +98,10 @@ returns-in-Nothing g c =
         counts = search rules;
       };
       taken = search rules;
-      line = λ told. taken_none c.runs.line.items c.take_run-answer.new.line.items (g.R.Read.rest c.args.self.now.inner) (g.R.Read.rest c.runs.self.inner)
-          (g.R.Read.rest c.take_run-answer.new.reader) (loop.unended told) (loop.so_far told) (rw c.in-Nothing.is at (now.run (loop.same.tells ∙ told)));
+      line = λ told. taken_none c.runs.line.items c.take_run-answer.new.line.items (g.R.Read.rest c.args.self.now.inner)
+          (g.R.Read.rest c.runs.self.inner)
+          (g.R.Read.rest c.take_run-answer.new.reader) (loop.unended told) (loop.so_far told)
+          (rw c.in-Nothing.is at (now.run (loop.same.tells ∙ told)));
       why = tt;
       cause = λ told. tt;
     }
@@ -115,8 +119,10 @@ returns-in-Ended g c =
         counts = search rules;
       };
       taken = search rules;
-      line = λ told. taken_run c.runs.line.items c.take_run-answer.new.line.items (g.R.Read.rest c.args.self.now.inner) (g.R.Read.rest c.runs.self.inner)
-          (g.R.Read.rest c.take_run-answer.new.reader) (loop.unended told) (loop.so_far told) (rw c.in-Ended.is at (now.run (loop.same.tells ∙ told)));
+      line = λ told. taken_run c.runs.line.items c.take_run-answer.new.line.items (g.R.Read.rest c.args.self.now.inner)
+          (g.R.Read.rest c.runs.self.inner)
+          (g.R.Read.rest c.take_run-answer.new.reader) (loop.unended told) (loop.so_far told)
+          (rw c.in-Ended.is at (now.run (loop.same.tells ∙ told)));
       why = tt;
       cause = λ told. tt;
     }

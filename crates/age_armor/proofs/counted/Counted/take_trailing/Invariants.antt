@@ -13,5 +13,7 @@ invariant-loop-count g l =
       narrows : AddsNoReason (TriedAgain reader.refuses) l.fn.self.inner l.self.inner;
       origin : IsTrue (reader.tells l.fn.self.inner) → reader.place l.self.inner - l.self.taken ≡ reader.place l.fn.self.inner - l.fn.self.taken;
       count : IsTrue (reader.tells l.fn.self.inner) → l.fn.self.taken + l._count ≤ l.self.taken;
-      so_far : IsTrue (reader.tells l.fn.self.inner) → trailing (reader.rest l.self.inner).bytes (reader.rest l.self.inner).ends_well ≡ trailing (reader.rest l.fn.self.inner).bytes (reader.rest l.fn.self.inner).ends_well;
+      so_far : IsTrue (reader.tells l.fn.self.inner)
+          → trailing (reader.rest l.self.inner).bytes (reader.rest l.self.inner).ends_well
+          ≡ trailing (reader.rest l.fn.self.inner).bytes (reader.rest l.fn.self.inner).ends_well;
     }

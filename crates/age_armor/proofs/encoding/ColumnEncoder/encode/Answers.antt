@@ -14,4 +14,5 @@ returns-clause-written c =
     let bytes = c.args.bytes.now in
     let e = c.self.inside.engine in
     c.in-Ok.ensures.written ∙ ap (λ z. z ++ drop (encoded_size_of e (length bytes)) c.args.columns.now) (c.self.invariant bytes)
-    ∙ ap (λ k. padded_columns bytes ++ drop k c.args.columns.now) (sym (count-is e c.self.invariant bytes _ _ _ c.in-Ok.is c.requires c.encode_slice.ensures.fits))
+    ∙ ap (λ k. padded_columns bytes ++ drop k c.args.columns.now)
+    (sym (count-is e c.self.invariant bytes _ _ _ c.in-Ok.is c.requires c.encode_slice.ensures.fits))

@@ -8,9 +8,11 @@ pub returns-in-Some-clause-each : goal.returns-in-Some-clause-each
 returns-in-Some-clause-each c = λ steady text knows.
     let items = c.deref.result.now in
     let at = c.in-Some.ensures.lookup in
-    let read : slice_get items (c.min-count.result - 1) ≡ Some c.in-Some.taken.now = slice_get_read items (length items) (c.min-count.result - 1) c.in-Some.taken.now refl at.3.0 at.1 in
+    let read : slice_get items (c.min-count.result - 1) ≡ Some c.in-Some.taken.now =
+    slice_get_read items (length items) (c.min-count.result - 1) c.in-Some.taken.now refl at.3.0 at.1 in
     let index : c.min-count.result - 1 + 1 ≡ c.min-count.result = omega (arith, c.if-count-eq0.false) in (
       subst (λ n. CanResume steady text (Lines false) (49152 * n) c.in-Some.taken.now) index
-          (knows.each (c.min-count.result - 1) c.in-Some.taken.now (subst (λ xs. slice_get xs (c.min-count.result - 1) ≡ Some c.in-Some.taken.now) c.deref.ensures.value read)),
+          (knows.each (c.min-count.result - 1) c.in-Some.taken.now
+          (subst (λ xs. slice_get xs (c.min-count.result - 1) ≡ Some c.in-Some.taken.now) c.deref.ensures.value read)),
       omega (arith, knows.passed, c.min-count.ensures, c.len.ensures),
     )

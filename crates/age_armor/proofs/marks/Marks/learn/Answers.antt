@@ -18,7 +18,16 @@ returns-clause-knows c = λ steady text knows behind end lines within armored_pa
           let so_far = knows.near now (noted.stops noting) armored in
           let still = known.near now noting armored in
           elim pace.2 [
-            | inl full ↦ omega (arith, still, pace.1, noted.next noting full pace.0 (omega (arith, behind, so_far)), noted.furthest, c.max-self.ensures, c.saturating_add.ensures)
+            | inl full ↦ omega (
+              arith,
+              still,
+              pace.1,
+              noted.next noting full pace.0
+                  (omega (arith, behind, so_far)),
+              noted.furthest,
+              c.max-self.ensures,
+              c.saturating_add.ensures,
+            )
             | inr zero ↦ omega (arith, still, pace.1, zero, noted.furthest, c.max-self.ensures, c.saturating_add.ensures)
           ];
     }

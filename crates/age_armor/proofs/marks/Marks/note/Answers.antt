@@ -11,8 +11,10 @@ returns-in-Ok-clause-knows c = λ steady text knows behind new.
     let at : c.args.place ≡ 49152 * (length before + 1) = omega (arith, c.if-place-ne0.false, c.if-place-len.false, c.len.ensures) in
     let more : length c.push.new.self.items ≡ length before + 1 = ap length c.in-Ok.ensures.items ∙ length-append before (c.args.taken ∷ []) in
     record {
-      each = each_of_longer (λ index taken. CanResume steady text (Lines false) (49152 * (index + 1)) taken) before c.push.new.self.items c.args.taken c.in-Ok.ensures.items
-          knows.each (subst (λ place. CanResume steady text (Lines false) place c.args.taken) at (new (c.is_after_full.ensures.yes c.if-not-is_after_full.false)));
+      each = each_of_longer (λ index taken. CanResume steady text (Lines false) (49152 * (index + 1)) taken) before c.push.new.self.items
+          c.args.taken c.in-Ok.ensures.items
+          knows.each (subst (λ place. CanResume steady text (Lines false) place c.args.taken) at (new
+          (c.is_after_full.ensures.yes c.if-not-is_after_full.false)));
       end = knows.end;
       met = knows.met;
       passed = omega (arith, at, more, behind);

@@ -10,7 +10,8 @@ returns g c =
       steady = search rules;
       faults = search rules;
       unread = search rules;
-      begins = IfOk-weaker c.new_buffered.result _ _ (λ r begins. record { text = search rules; outcome = search rules; whole = search rules }) made.begins;
+      begins = IfOk-weaker c.new_buffered.result _ _
+          (λ r begins. record { text = search rules; outcome = search rules; whole = search rules }) made.begins;
       place = search rules;
       content = search rules;
       rest = search rules;

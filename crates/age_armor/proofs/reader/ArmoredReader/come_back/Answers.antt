@@ -11,7 +11,8 @@ pub returns-then-failed : goal.returns-then-failed
 returns-then-failed g c =
     let now = c.fail_at.ensures in
     record {
-      back = stays-failed _ _ g.R.Seek.seek_refuses _ _ _ _ _ (same-source _ _ now.source now.preceding) now.place now.failed now.rest (source-narrows c.args.self.now c.fail_at.new.self now.source now.preceding) (inl c.if-failed.true);
+      back = stays-failed _ _ g.R.Seek.seek_refuses _ _ _ _ _ (same-source _ _ now.source now.preceding) now.place now.failed now.rest
+          (source-narrows c.args.self.now c.fail_at.new.self now.source now.preceding) (inl c.if-failed.true);
       text = text-still _ _ now.source now.preceding now.marks;
       ending = λ told steady good. absurd (true≢false (sym now.failed ∙ good));
       lines = λ told steady had at refusal. omega (arith, ap (λ s. s.lines) now.source);
@@ -21,7 +22,9 @@ pub returns-then-not-is_outside : goal.returns-then-not-is_outside
 returns-then-not-is_outside g c =
     let now = c.fail_at-then-not-is_outside.ensures in
     record {
-      back = stays-failed _ _ g.R.Seek.seek_refuses _ _ _ _ _ (same-source _ _ now.source now.preceding) now.place now.failed now.rest (source-narrows c.args.self.now c.fail_at-then-not-is_outside.new.self now.source now.preceding) (inr (c.is_outside.ensures.no c.if-not-is_outside.true));
+      back = stays-failed _ _ g.R.Seek.seek_refuses _ _ _ _ _ (same-source _ _ now.source now.preceding) now.place now.failed now.rest
+          (source-narrows c.args.self.now c.fail_at-then-not-is_outside.new.self now.source now.preceding)
+          (inr (c.is_outside.ensures.no c.if-not-is_outside.true));
       text = text-still _ _ now.source now.preceding now.marks;
       ending = λ told steady good. absurd (true≢false (sym now.failed ∙ good));
       lines = λ told steady had at refusal. omega (arith, ap (λ s. s.lines) now.source);
@@ -40,7 +43,8 @@ pub returns-in-Ok : goal.returns-in-Ok
 returns-in-Ok g c =
     let before = c.args.self.now in
     let now = c.in-Ok.ensures in
-    let place : (IsTrue (g.R.Read.tells before.source.inner) → c.go_to.new.self.place ≡ c.args.place) = λ told. now.reaches.place told ∙ now.reaches.there in
+    let place : (IsTrue (g.R.Read.tells before.source.inner) → c.go_to.new.self.place ≡ c.args.place) =
+    λ told. now.reaches.place told ∙ now.reaches.there in
     record {
       back = came _ _ g.R.Seek.seek_refuses _ _ _ _ _ now.goes.keeps.same now.reaches.stands.good place
           (λ told steady. now.reaches.stands.rest told steady ∙ ap (λ n. from_place n (armored_content before)) (place told)) c.if-failed.false
@@ -59,7 +63,8 @@ returns-in-Err g c =
     let made = c.unrefused.ensures in
     let len = length (armored_content before).bytes in
     record {
-      back = lost _ _ g.R.Seek.seek_refuses before c.go_to.new.self c.fail_at-in-Err.new.self _ _ _ c.in-Err.e c.unrefused.result missed.goes (same-source _ _ now.source now.preceding) now.place now.failed now.rest
+      back = lost _ _ g.R.Seek.seek_refuses before c.go_to.new.self c.fail_at-in-Err.new.self _ _ _ c.in-Err.e c.unrefused.result missed.goes
+          (same-source _ _ now.source now.preceding) now.place now.failed now.rest
           (c.is_outside.ensures.yes c.if-not-is_outside.false) made.other made.kept
           (λ told well other quiet.
           let inner = well_inner (reader.content before.source.inner) (origin_of before) well in
@@ -70,7 +75,8 @@ returns-in-Err g c =
             | inr not ↦ (missed.misses.named told inner not (λ memory. other (made.same not ∙ memory)) quiet).1
           ] in
           absurd (omega (arith, beyond, within)));
-      text = text-later before c.go_to.new.self c.fail_at-in-Err.new.self missed.goes.keeps.same missed.text (text-still _ _ now.source now.preceding now.marks);
+      text = text-later before c.go_to.new.self c.fail_at-in-Err.new.self missed.goes.keeps.same missed.text
+          (text-still _ _ now.source now.preceding now.marks);
       ending = λ told steady good. absurd (true≢false (sym now.failed ∙ good));
       lines = λ told steady had at refusal. absurd (made.other refusal);
     }

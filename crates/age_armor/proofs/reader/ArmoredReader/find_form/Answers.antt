@@ -14,7 +14,8 @@ returns-in-Err-walk-clause-keeps g c =
     let first = c.in-Ok.ensures in
     let last = c.in-Err-walk.ensures in
     (goes-unrefused armored_reader g.R.Seek.seek_refuses refuses_of _ _ c.unrefused.result c.unrefused.result (λ other. refl)
-    (walk-goes g.R.Seek.seek_refuses c.args.self.now c.approach.new.self c.walk.new.self c.in-Err-walk.e c.unrefused.result first.goes last.goes c.unrefused.ensures.kept)).keeps
+    (walk-goes g.R.Seek.seek_refuses c.args.self.now c.approach.new.self c.walk.new.self c.in-Err-walk.e c.unrefused.result first.goes last.goes
+    c.unrefused.ensures.kept)).keeps
 
 pub returns-in-Err-walk-clause-text : goal.returns-in-Err-walk-clause-text
 returns-in-Err-walk-clause-text g c =
@@ -37,7 +38,8 @@ returns-in-Ok-walk g c =
     let new = c.walk.new.self in
     let first = c.in-Ok.ensures in
     let last = c.in-Ok-walk.ensures in
-    let came = came-on before middle new 1 first.goes first.text first.stands last.goes last.text last.good.good last.along last.ending (stands_inside new) in
+    let came = came-on before middle new 1 first.goes first.text first.stands last.goes last.text last.good.good last.along last.ending
+    (stands_inside new) in
     record {
       keeps = (came-goes before new came).keeps;
       text = came.text;

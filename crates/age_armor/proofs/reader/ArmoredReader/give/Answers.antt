@@ -17,7 +17,15 @@ invariant_of-self g c =
       sound = sound-given before n c.saturating_add-self.result (take n held) (held_in c.give-count.new.self) fits
           (sym (length-take-le n held fits)) c.give-count.ensures.left
           (gives_front before.failed held (take n held) n before.stage (g.R.Read.rest before.source.inner) c.requires refl)
-          (λ told. omega (arith, c.saturating_add-self.ensures, before.sound.counted told c.requires, before.source.behind told, g.met.R.Read.place_fits before.source.inner told, fits))
+          (λ told. omega (
+            arith,
+            c.saturating_add-self.ensures,
+            before.sound.counted told c.requires,
+            before.source.behind
+                told,
+            g.met.R.Read.place_fits before.source.inner told,
+            fits,
+          ))
           (λ gone. absurd (true≢false (sym gone ∙ c.requires))) (g.met.R.Read.place_fits before.source.inner);
     }
 
@@ -29,7 +37,15 @@ returns g c =
     let rest = g.R.Read.rest before.source.inner in
     let fits : n ≤ length held = grind (arith, common_steps) in
     let moves : (IsTrue (g.R.Read.tells before.source.inner) → c.saturating_add-self.result ≡ before.place + n) = λ told.
-    omega (arith, c.saturating_add-self.ensures, before.sound.counted told c.requires, before.source.behind told, g.met.R.Read.place_fits before.source.inner told, fits) in
+    omega (
+      arith,
+      c.saturating_add-self.ensures,
+      before.sound.counted told c.requires,
+      before.source.behind told,
+      g.met.R.Read.place_fits
+          before.source.inner told,
+      fits,
+    ) in
     record {
       count = c.give-count.ensures.count;
       reads = record {

@@ -44,8 +44,10 @@ returns-else-there-clause-goes g c =
     let new = c.walk.new.self in
     let first = c.in-Ok.ensures in
     let last = c.in-Ok-walk.ensures in
-    let came = came-on before c.approach.new.self new c.args.target first.goes first.text first.stands last.goes last.text last.good.good last.along last.ending (stands_inside new) in
-    let ends : WhereTold before (IsCleanEnd (armored_rest new) × (new.place < c.args.target)) = λ told. last.comes.end (first.goes.keeps.same.tells ∙ told) c.if-there.false in
+    let came = came-on before c.approach.new.self new c.args.target first.goes first.text first.stands last.goes last.text last.good.good
+    last.along last.ending (stands_inside new) in
+    let ends : WhereTold before (IsCleanEnd (armored_rest new) × (new.place < c.args.target)) =
+    λ told. last.comes.end (first.goes.keeps.same.tells ∙ told) c.if-there.false in
     let end = came-end before new came (λ told. (ends told).0) in
     let len = length (armored_content before).bytes in
     record {
@@ -69,7 +71,8 @@ returns-then-there g c =
     let first = c.in-Ok.ensures in
     let back = first.goes.keeps.same in
     let last = c.in-Ok-walk.ensures in
-    let came = came-on before middle new c.args.target first.goes first.text first.stands last.goes last.text last.good.good last.along last.ending (stands_inside new) in
+    let came = came-on before middle new c.args.target first.goes first.text first.stands last.goes last.text last.good.good last.along
+    last.ending (stands_inside new) in
     let len = length (armored_content before).bytes in
     let place : WhereTold before (new.place ≡ c.args.target) = λ told. last.comes.there (back.tells ∙ told) c.if-there.true in
     let within : WhereSteady before (c.args.target ≤ len) = λ told steady.
@@ -81,7 +84,12 @@ returns-then-there g c =
       goes = record {
         goes = came-goes before new came;
         text = came.text;
-        reaches = record { stands = came-stands before new came; there = refl; place = place; exact = λ told steady. moved-within c.args.target len (within told steady) };
+        reaches = record {
+          stands = came-stands before new came;
+          there = refl;
+          place = place;
+          exact = λ told steady. moved-within c.args.target len (within told steady);
+        };
         misses = misses-none _ _ _ _;
       };
       lines = λ told steady noting near. elim (cases_Bool (begins_armor (source_of before).bytes)) [

@@ -21,5 +21,6 @@ returns-else-is_binary-clause-lands g c = λ told steady plain front.
     let before = c.args.self.now in
     elim (cases_Bool (is_start before.stage)) [
       | inl start ↦ IfOk-weaker c.go_along.result _ _ (λ n both. both.1) (c.go_along.ensures.front (front start))
-      | inr begun ↦ absurd (is_plain before.stage begun (((before.sound.text told steady).form begun).same ∙ plain) (c.is_binary.ensures.no c.if-is_binary.false))
+      | inr begun ↦ absurd (is_plain before.stage begun (((before.sound.text told steady).form begun).same ∙ plain)
+          (c.is_binary.ensures.no c.if-is_binary.false))
     ]

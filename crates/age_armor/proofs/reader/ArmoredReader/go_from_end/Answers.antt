@@ -63,7 +63,8 @@ returns-in-Ok g c =
     record {
       goes = now.goes;
       text = now.text;
-      reaches = reaches-end before before after c.args.distance aim c.go_to.result (same-self _ before) (text-still _ _ refl refl refl) found now.reaches;
+      reaches = reaches-end before before after c.args.distance aim c.go_to.result (same-self _ before)
+          (text-still _ _ refl refl refl) found now.reaches;
       misses = misses-end before before after c.args.distance aim c.go_to.result (g.met.R.Read.well before.source.inner) (same-self _ before)
           (text-still _ _ refl refl refl) (λ e h. h) found now.goes now.misses;
       finds = record {
@@ -71,5 +72,8 @@ returns-in-Ok g c =
         knows = on_ok_weaker c.go_to.result (λ good. now.text.learns.end (ap is_known (sym c.length.ensures ∙ c.in-Some.is))) now.reaches.stands.good;
       };
       below = now.below;
-      spares = record { lines = λ told steady noting known. now.spares.lines told steady noting (c.in-Ok.ensures.within told steady).1; outside = now.spares.outside };
+      spares = record {
+        lines = λ told steady noting known. now.spares.lines told steady noting (c.in-Ok.ensures.within told steady).1;
+        outside = now.spares.outside;
+      };
     }

@@ -93,13 +93,20 @@ returns g c =
       spares = record {
         lines = λ told steady noting near. elim first.finds [
           | inl is ↦ subst (λ r. OnOk result (new.source.lines ≤ r.source.lines + 1024)) is
-              (last.lines (same.tells ∙ told) (same.steady ∙ steady) (subst (λ r. IsTrue r.marks.noting) (sym is) noting) (subst (λ r. target ≤ r.marks.furthest) (sym is) near))
+              (last.lines (same.tells ∙ told) (same.steady ∙ steady) (subst (λ r. IsTrue r.marks.noting) (sym is) noting)
+              (subst (λ r. target ≤ r.marks.furthest) (sym is) near))
           | inr unread ↦ absurd (omega (arith, unread.0.1, unread.1, near))
         ];
         outside = λ told steady known. IfErr-weaker result _ _ (λ e refused refusal.
             let some = some_length before.marks.length known in
             let is = (before.sound.known told).end some.0 some.1 steady in
-            absurd (omega (arith, past-moved target (length (armored_content before).bytes) e (refused refusal).1, is.same, c.ends_before.ensures.no c.if-ends_before.false some.0 some.1)))
+            absurd (omega (
+              arith,
+              past-moved target (length (armored_content before).bytes) e
+                  (refused refusal).1,
+              is.same,
+              c.ends_before.ensures.no c.if-ends_before.false some.0 some.1,
+            )))
             (next.misses.refused told steady);
       };
       stays = record {

@@ -38,8 +38,10 @@ invariant_of-self-in-Ok g c =
     let held = held_in c.hold.new.self in
     let size : length held ≡ piece.count =
     ap length c.hold.ensures ∙ length-take-le piece.count c.advance.new.bytes (omega (arith, now.piece.fits, now.size)) in
-    let advances : WhereTold before (Advances (ahead before.stage (reader.rest before.source.inner)) held (ahead piece.next (reader.rest source.inner))) = λ told.
-    subst (λ xs. Advances (ahead before.stage (reader.rest before.source.inner)) xs (ahead piece.next (reader.rest source.inner))) (sym c.hold.ensures) (now.gives.bytes told) in
+    let advances : WhereTold before (Advances (ahead before.stage (reader.rest before.source.inner)) held
+    (ahead piece.next (reader.rest source.inner))) = λ told.
+    subst (λ xs. Advances (ahead before.stage (reader.rest before.source.inner)) xs (ahead piece.next (reader.rest source.inner)))
+    (sym c.hold.ensures) (now.gives.bytes told) in
     let origin = origin_of before in
     let next = reader.place source.inner - source.taken + before.preceding in
     let content = content_of (reader.content before.source.inner) origin in
@@ -47,9 +49,11 @@ invariant_of-self-in-Ok g c =
     let rest = rest_ahead before.failed old before.stage (reader.rest before.source.inner) in
     let new = rest_ahead before.failed held piece.next (reader.rest source.inner) in
     let front = front_held before.failed held piece.next (reader.rest source.inner) c.requires in
-    let same = same-text reader before.source.inner origin source.inner next now.kept.keeps.same (λ told. ap (λ n. n + before.preceding) (now.kept.origin told)) in
+    let same = same-text reader before.source.inner origin source.inner next now.kept.keeps.same
+    (λ told. ap (λ n. n + before.preceding) (now.kept.origin told)) in
     let kept : WhereTold before (new ≡ rest) = λ told.
-    hold_rest before.failed old held before.stage piece.next (reader.rest before.source.inner) (reader.rest source.inner) c.requires empty (advances told) in
+    hold_rest before.failed old held before.stage piece.next (reader.rest before.source.inner) (reader.rest source.inner) c.requires empty
+    (advances told) in
     let begins_so : WhereTold before (rest.bytes ≡ held ++ front.more) = λ told. ap (λ s. s.bytes) (sym (kept told)) ∙ front.bytes in
     let end : WhereTold before (piece.count ≡ 0 → IsCleanEnd rest) = λ told none.
     hold_end before.failed old before.stage (reader.rest before.source.inner) c.requires empty (now.piece.end told none) in
@@ -65,7 +69,12 @@ invariant_of-self-in-Ok g c =
             let told_before = same.told told in
             let pace = before.sound.paced told_before c.requires in
             record {
-              within = omega (arith, size, c.learn.ensures.reaches (omega (arith, before.sound.fits told_before, now.piece.fits)) (omega (arith, pace.within)));
+              within = omega (
+                arith,
+                size,
+                c.learn.ensures.reaches (omega (arith, before.sound.fits told_before, now.piece.fits))
+                    (omega (arith, pace.within)),
+              );
               first = λ start. absurd (true≢false (sym start ∙ now.piece.begun));
               lines = λ full. omega (
                 arith,
@@ -85,17 +94,20 @@ invariant_of-self-in-Ok g c =
             (stands_inside before told_before steady) (follows_text before told_before steady))
             (λ some lines. (
               omega (arith, before.sound.counted told_before c.requires, none, c.saturating_sub-taken.ensures),
-              λ steady. resumes_line (reader.content before.source.inner) (reader.rest before.source.inner) _ origin c.saturating_sub-taken.result before.place old
+              λ steady. resumes_line (reader.content before.source.inner)
+                  (reader.rest before.source.inner) _ origin c.saturating_sub-taken.result before.place old
                   before.stage _ held lines
                   (omega (arith, before.source.behind told_before, (before.sound.text told_before steady).behind, c.saturating_sub-taken.ensures))
-                  (g.met.R.Read.stands before.source.inner told_before steady) empty (advances told_before) (omega (arith, size, some)) (stands_inside before told_before steady)
+                  (g.met.R.Read.stands before.source.inner told_before steady) empty (advances told_before) (omega (arith, size, some))
+                  (stands_inside before told_before steady)
                   (rw c.requires at (follows_text before told_before steady)) (rw c.requires at (ends_as_text before told_before steady))
                   ((before.sound.text told_before steady).form (ap is_start lines)),
             ))
             (λ steady. reaches_content content rest before.place piece.count held front.more (stands_inside before told_before steady)
             (follows_text before told_before steady) (begins_so told_before) size)
             (λ steady. after_full before.stage before.place piece.count (drop origin (reader.content before.source.inner).bytes)
-            (c.is_ready.ensures.more c.if-is_ready.false) (before.sound.text told_before steady).form pace.first (λ full. omega (arith, pace.lines full, none)) (short told_before) now.piece.fits));
+            (c.is_ready.ensures.more c.if-is_ready.false) (before.sound.text told_before steady).form pace.first
+            (λ full. omega (arith, pace.lines full, none)) (short told_before) now.piece.fits));
         lined = λ told other.
             let told_before = same.told told in
             let armored = other_than_binary piece.next now.piece.begun other in
@@ -113,7 +125,8 @@ invariant_of-self-in-Ok g c =
             let at = text.follows (not_nothing rest held front.more piece.count (begins_so told_before) size (end told_before)) in
             let here : IsHere source before.preceding piece.next held before.place before.failed = record {
               rest = kept told_before ∙ at.rest ∙ ap (from_place before.place) (sym (same.content told));
-              ending = hold_ending old held before.stage piece.next (reader.rest before.source.inner) (reader.rest source.inner) (advances told_before)
+              ending = hold_ending old held before.stage piece.next (reader.rest before.source.inner) (reader.rest source.inner)
+                  (advances told_before)
                   ∙ at.ending ∙ sym (ap (λ t. (text_delivers t.bytes t.ends_well).ending) (same.text told));
             } in
             record {
@@ -139,7 +152,8 @@ invariant_of-self-in-Err g c =
     let kept = c.in-Err.ensures.kept in
     record {
       sound = sound-failed before source before.preceding before.place _ kept.keeps.same (λ told. ap (λ n. n + before.preceding) (kept.origin told))
-          (λ told steady. omega (arith, (before.sound.text told steady).behind, kept.more told)) before.sound.fits (stands_inside before) c.in-Err.ensures.counts.0;
+          (λ told steady. omega (arith, (before.sound.text told steady).behind, kept.more told)) before.sound.fits
+          (stands_inside before) c.in-Err.ensures.counts.0;
     }
 
 pub returns-then-is_ready : goal.returns-then-is_ready
@@ -158,7 +172,8 @@ returns-then-is_ready g c =
         rest = λ told. refl;
         begun = begun;
         end = λ told none.
-            hold_end before.failed (held_in before.window) before.stage (g.R.Read.rest before.source.inner) c.requires none (ended_clean before.stage (g.R.Read.rest before.source.inner) (end none));
+            hold_end before.failed (held_in before.window) before.stage (g.R.Read.rest before.source.inner) c.requires none
+            (ended_clean before.stage (g.R.Read.rest before.source.inner) (end none));
         knows = λ none. before.sound.done (end none);
         same = λ some. (refl, refl);
         line = λ armored. record {
@@ -190,8 +205,10 @@ returns-in-Ok g c =
     let held = held_in c.hold.new.self in
     let size : length held ≡ piece.count =
     ap length c.hold.ensures ∙ length-take-le piece.count c.advance.new.bytes (omega (arith, now.piece.fits, now.size)) in
-    let advances : WhereTold before (Advances (ahead before.stage (reader.rest before.source.inner)) held (ahead piece.next (reader.rest source.inner))) = λ told.
-    subst (λ xs. Advances (ahead before.stage (reader.rest before.source.inner)) xs (ahead piece.next (reader.rest source.inner))) (sym c.hold.ensures) (now.gives.bytes told) in
+    let advances : WhereTold before (Advances (ahead before.stage (reader.rest before.source.inner)) held
+    (ahead piece.next (reader.rest source.inner))) = λ told.
+    subst (λ xs. Advances (ahead before.stage (reader.rest before.source.inner)) xs (ahead piece.next (reader.rest source.inner)))
+    (sym c.hold.ensures) (now.gives.bytes told) in
     let no_count : (held ≡ [] → piece.count ≡ 0) = λ none. sym size ∙ ap length none in
     record {
       goes = armored-done _ _ _ now.kept.keeps (λ told. ap (λ n. n + before.preceding) (now.kept.origin told)) now.kept.unspent c.requires;
@@ -207,9 +224,11 @@ returns-in-Ok g c =
           (omega (arith, before.sound.untaken c.requires start, before.source.behind told)) plain));
       holds = record {
         place = refl;
-        rest = λ told. hold_rest before.failed old held before.stage piece.next (reader.rest before.source.inner) (reader.rest source.inner) c.requires empty (advances told);
+        rest = λ told. hold_rest before.failed old held before.stage piece.next (reader.rest before.source.inner)
+            (reader.rest source.inner) c.requires empty (advances told);
         begun = now.piece.begun;
-        end = λ told found. hold_end before.failed old before.stage (reader.rest before.source.inner) c.requires empty (now.piece.end told (no_count found));
+        end = λ told found. hold_end before.failed old before.stage (reader.rest before.source.inner) c.requires empty
+            (now.piece.end told (no_count found));
         knows = λ found. ap is_known (c.learn.ensures.ends (no_count found));
         same = λ some. absurd (omega (arith, ap length (shown_none before.failed (held_in before.window) empty), some));
         line = λ armored. record {
@@ -238,9 +257,11 @@ returns-in-Err g c =
     record {
       goes = armored-refused _ _ _ c.in-Err.e now.kept.keeps (λ told. ap (λ n. n + before.preceding) (now.kept.origin told))
           (λ why. inr (text-own reader before.source.inner _ (text_outcome_of before).ending c.in-Err.e why now.gives.why
-          (λ told steady. end_left (reader.content before.source.inner) (reader.rest before.source.inner) (reader.place before.source.inner) (origin_of before)
+          (λ told steady. end_left (reader.content before.source.inner) (reader.rest before.source.inner) (reader.place before.source.inner)
+          (origin_of before)
           (held_in before.window) before.stage c.in-Err.e (g.met.R.Read.stands before.source.inner told steady)
-          (λ start. omega (arith, before.sound.untaken c.requires start, before.source.behind told)) (λ begun. ((before.sound.text told steady).here c.requires begun).ending))));
+          (λ start. omega (arith, before.sound.untaken c.requires start, before.source.behind told))
+          (λ begun. ((before.sound.text told steady).here c.requires begun).ending))));
       good = good-failed _ _ c.in-Err.e c.requires refl now.kept.keeps.patient;
       ending = record {
         same = λ told. tt;
@@ -266,5 +287,6 @@ returns-in-Err g c =
       counts = λ told. tt;
       lines = now.counts.1;
       cause = λ told other quiet.
-          hold_fault before.failed (held_in before.window) before.stage (reader.rest before.source.inner) c.in-Err.e c.requires empty (now.gives.cause told other quiet);
+          hold_fault before.failed (held_in before.window) before.stage (reader.rest before.source.inner) c.in-Err.e c.requires empty
+          (now.gives.cause told other quiet);
     }

@@ -9,7 +9,8 @@ pub returns-clause-stands : goal.returns-clause-stands
 returns-clause-stands g c = λ told steady.
     let reader = g.R.Read in
     let source = c.args.self.source in
-    stands_in_text (reader.content source.inner) (reader.rest source.inner) (reader.place source.inner) (origin_of c.args.self) (source.taken - c.args.self.preceding)
+    stands_in_text (reader.content source.inner) (reader.rest source.inner) (reader.place source.inner) (origin_of c.args.self)
+    (source.taken - c.args.self.preceding)
     (omega (arith, source.behind told, (c.args.self.sound.text told steady).behind))
     (g.met.R.Read.stands source.inner told steady)
 

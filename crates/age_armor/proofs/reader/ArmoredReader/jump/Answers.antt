@@ -32,8 +32,10 @@ invariant_of-self g c =
     let before = c.args.self.now in
     let now = c.in-Err.ensures in
     record {
-      sound = sound-failed before c.leap.new.self before.preceding before.place _ now.keeps.same (λ told. ap (λ n. n + before.preceding) (now.origin told))
-          (λ told steady. omega (arith, (before.sound.text told steady).behind, now.refused)) before.sound.fits (stands_inside before) (omega (arith, now.lines));
+      sound = sound-failed before c.leap.new.self before.preceding before.place _ now.keeps.same
+          (λ told. ap (λ n. n + before.preceding) (now.origin told))
+          (λ told steady. omega (arith, (before.sound.text told steady).behind, now.refused)) before.sound.fits (stands_inside before)
+          (omega (arith, now.lines));
     }
 
 -- ---- past the end
@@ -43,8 +45,10 @@ invariant_of-self-then-not-there g c =
     let before = c.args.self.now in
     let now = c.in-Ok.ensures in
     record {
-      sound = sound-failed before c.leap.new.self before.preceding before.place _ now.keeps.same (λ told. ap (λ n. n + before.preceding) (now.origin told))
-          (λ told steady. omega (arith, (before.sound.text told steady).behind, now.stays c.if-not-there.true)) before.sound.fits (stands_inside before) (omega (arith, now.lines));
+      sound = sound-failed before c.leap.new.self before.preceding before.place _ now.keeps.same
+          (λ told. ap (λ n. n + before.preceding) (now.origin told))
+          (λ told steady. omega (arith, (before.sound.text told steady).behind, now.stays c.if-not-there.true)) before.sound.fits
+          (stands_inside before) (omega (arith, now.lines));
     }
 
 pub returns-in-Err-jump_to_end-clause-goes : goal.returns-in-Err-jump_to_end-clause-goes
@@ -57,14 +61,17 @@ returns-in-Err-jump_to_end-clause-goes g c =
     let first = c.in-Ok.ensures in
     let last = c.in-Err-jump_to_end.ensures in
     let same = first.keeps.same in
-    let origin : WhereTold before (origin_of new ≡ origin_of before) = λ told. last.origin (same.tells ∙ told) ∙ ap (λ n. n + before.preceding) (first.origin told) in
+    let origin : WhereTold before (origin_of new ≡ origin_of before) =
+    λ told. last.origin (same.tells ∙ told) ∙ ap (λ n. n + before.preceding) (first.origin told) in
     let own = OrAstray g.R.Seek.seek_refuses in
     let keeps : KeepsReader {T = Unit {0}} reader (OrSeek own (OrWant reader)) before.source.inner new.source.inner (Err e) =
     keeps-later reader (OrSeek own (OrWant reader)) (Err e) before.source.inner middle new.source.inner same first.keeps.narrows
     (seek-narrows own (OrWant reader) before.source.inner middle (want-narrows reader before.source.inner middle first.keeps.narrows)) last.below in
     record {
-      goes = armored-refused _ before new e keeps origin (λ why. elim why [ inl is ↦ inl is | inr want ↦ inr (inr (want-own reader before.source.inner (text_outcome_of before).ending e want)) ]);
-      text = text-moved before new keeps.same origin last.text.learns (omega (arith, last.lines, first.lines)) (λ told steady plain. last.lines ∙ first.lines);
+      goes = armored-refused _ before new e keeps origin
+          (λ why. elim why [ inl is ↦ inl is | inr want ↦ inr (inr (want-own reader before.source.inner (text_outcome_of before).ending e want)) ]);
+      text = text-moved before new keeps.same origin last.text.learns (omega (arith, last.lines, first.lines))
+          (λ told steady plain. last.lines ∙ first.lines);
       reaches = reaches-none _ _ _ _;
       misses = misses-own before new _ e last.fails.other (λ told well other quiet.
           absurd (last.cause (same.tells ∙ told) (subst (λ s. IsTrue s.ends_well) (sym (same.content told)) well) other
@@ -81,13 +88,15 @@ returns-in-Ok-jump_to_end-clause-goes g c =
     let last = c.in-Ok-jump_to_end.ensures in
     let back = first.keeps.same in
     let same = same-later reader before.source.inner middle new.source.inner back last.below.same in
-    let origin : WhereTold before (origin_of new ≡ origin_of before) = λ told. last.origin (back.tells ∙ told) ∙ ap (λ n. n + before.preceding) (first.origin told) in
+    let origin : WhereTold before (origin_of new ≡ origin_of before) =
+    λ told. last.origin (back.tells ∙ told) ∙ ap (λ n. n + before.preceding) (first.origin told) in
     let armored = same-armored before new same origin in
     let form : WhereSteady before (FindsForm false (source_of before).bytes) = λ told steady.
     subst (λ s. FindsForm (has_lines s) (source_of before).bytes) c.requires ((before.sound.text told steady).form (ap is_start c.requires)) in
     record {
       goes = record { keeps = keeps-refused armored_reader _ before new PastEnd armored (λ device. device) (inl (inl tt)); unspent = tt };
-      text = text-moved before new same origin last.text.learns (omega (arith, last.lines, first.lines)) (λ told steady plain. last.lines ∙ first.lines);
+      text = text-moved before new same origin last.text.learns (omega (arith, last.lines, first.lines))
+          (λ told steady plain. last.lines ∙ first.lines);
       reaches = reaches-none _ _ _ _;
       misses = record {
         missed = λ refusal. armor-narrows before new same (λ e h. first.keeps.narrows e (last.below.narrows e h)) origin last.stands.good;
@@ -95,17 +104,28 @@ returns-in-Ok-jump_to_end-clause-goes g c =
             let told_then = back.tells ∙ told in
             let steady_then = back.steady ∙ steady in
             let content : armored_content new ≡ armored_content before = armored.content told in
-            let text = same-text reader before.source.inner (origin_of before) middle (reader.place middle - c.leap.new.self.taken + before.preceding) back
+            let text = same-text reader before.source.inner (origin_of before) middle
+            (reader.place middle - c.leap.new.self.taken + before.preceding) back
             (λ told. ap (λ n. n + before.preceding) (first.origin told)) in
-            let stands : armored_rest new ≡ from_place new.place (armored_content before) = last.stands.rest told_then steady_then ∙ ap (from_place new.place) (text.content told_then) in
+            let stands : armored_rest new ≡ from_place new.place (armored_content before) =
+            last.stands.rest told_then steady_then ∙ ap (from_place new.place) (text.content told_then) in
             let end = ends_at (armored_content before) (armored_rest new) new.place stands (last.end told_then)
             (subst (λ s. new.place ≤ length s.bytes) content (stands_inside new (armored.tells ∙ told) (armored.steady ∙ steady))) in
             let well = well_inner (reader.content before.source.inner) (origin_of before) end.0 in
             let past = first.past told well c.if-not-there.true in
-            let size : length (armored_content before).bytes ≡ length (source_of before).bytes = ap (λ o. length o.bytes) (carried_binary (source_of before) (form told steady)) in (
+            let size : length (armored_content before).bytes ≡ length (source_of before).bytes =
+            ap (λ o. length o.bytes) (carried_binary (source_of before) (form told steady)) in (
               end.0,
               moved-past c.args.target (length (armored_content before).bytes)
-                  (omega (arith, past, size, c.saturating_add.ensures, (form told steady).long, length-drop (origin_of before) (reader.content before.source.inner).bytes)),
+                  (omega (
+                    arith,
+                    past,
+                    size,
+                    c.saturating_add.ensures,
+                    (form told steady).long,
+                    length-drop (origin_of before)
+                        (reader.content before.source.inner).bytes,
+                  )),
             );
         named = λ told well own. absurd (own tt);
       };
@@ -130,12 +150,15 @@ invariant_of-self-2 g c =
     (omega (arith, now.within told steady c.if-not-there.false, sum, length-drop (origin_of before) content.bytes)) in
     record {
       sound = subst (λ s. IsSound source before.preceding s (held_in c.clear.new.self) target false c.reach.new.self) (sym c.requires)
-          (sound-resumed before source before.preceding Binary (held_in c.clear.new.self) target target c.reach.new.self c.clear.ensures now.keeps.same (λ told. ap (λ n. n + before.preceding) (now.origin told))
+          (sound-resumed before source before.preceding Binary
+          (held_in c.clear.new.self) target target c.reach.new.self c.clear.ensures now.keeps.same
+          (λ told. ap (λ n. n + before.preceding) (now.origin told))
           (there.0 ∙ sum) (now.unspent c.if-not-there.false) (g.met.R.Read.place_fits source.inner) (λ start. absurd (true≢false (sym start))) refl
           (λ full. absurd (true≢false (sym (ap has_lines full)))) (λ told. (omega arith, resumes told))
           (λ told steady. now.rest told steady c.if-not-there.false ∙ ap (λ n. from_place n content) (omega (arith, sum)))
           (λ told. (
-            c.reach.ensures.knows (reader.steady before.source.inner) (source_of before) (before.sound.known told) (λ steady. (resumes told steady).within) (λ steady. sym (form told steady).same),
+            c.reach.ensures.knows (reader.steady before.source.inner) (source_of before) (before.sound.known told)
+                (λ steady. (resumes told steady).within) (λ steady. sym (form told steady).same),
             c.reach.ensures.reaches,
           ))
           (λ told steady start. absurd (true≢false (sym start))) (λ told other. absurd (other refl)));
@@ -156,7 +179,8 @@ returns-clause-goes g c =
     let resumes : WhereSteady before (Resumes (source_of before) before.stage target target) = λ told steady.
     rw c.requires (resumes_binary (source_of before) target (form told steady)
     (omega (arith, now.within told steady c.if-not-there.false, sum, length-drop (origin_of before) content.bytes))) in
-    let origin : WhereTold before (reader.place source.inner - source.taken + before.preceding ≡ origin_of before) = λ told. ap (λ n. n + before.preceding) (now.origin told) in
+    let origin : WhereTold before (reader.place source.inner - source.taken + before.preceding ≡ origin_of before) =
+    λ told. ap (λ n. n + before.preceding) (now.origin told) in
     let rest : WhereSteady before (reader.rest source.inner ≡ from_place (origin_of before + target) content) = λ told steady.
     now.rest told steady c.if-not-there.false ∙ ap (λ n. from_place n content) (omega (arith, sum)) in
     record {
@@ -165,8 +189,10 @@ returns-clause-goes g c =
       reaches = record {
         stands = record {
           good = refl;
-          rest = λ told steady. resumed_rest content (reader.rest source.inner) (origin_of before) target target before.stage (held_in c.clear.new.self) c.clear.ensures (resumes told steady) (rest told steady);
-          ending = λ told steady. resumed_ending content (reader.rest source.inner) (origin_of before) target target before.stage (held_in c.clear.new.self) (resumes told steady) (rest told steady);
+          rest = λ told steady. resumed_rest content (reader.rest source.inner) (origin_of before) target target before.stage
+              (held_in c.clear.new.self) c.clear.ensures (resumes told steady) (rest told steady);
+          ending = λ told steady. resumed_ending content (reader.rest source.inner) (origin_of before) target target before.stage
+              (held_in c.clear.new.self) (resumes told steady) (rest told steady);
         };
         there = refl;
         place = λ told. refl;

@@ -22,7 +22,8 @@ invariant_of-self g c =
     let now = c.go_to_end.ensures in
     record {
       sound = sound-failed before c.go_to_end.new.self c.go_to_end.new.preceding before.place _ now.goes.keeps.same
-          now.origin (λ told steady. now.behind told steady (before.sound.text told steady).behind) before.sound.fits (stands_inside before) (omega (arith, now.lines));
+          now.origin (λ told steady. now.behind told steady (before.sound.text told steady).behind) before.sound.fits (stands_inside before)
+          (omega (arith, now.lines));
     }
 
 pub returns-then-self-clause-cause : goal.returns-then-self-clause-cause
@@ -42,7 +43,8 @@ invariant_of-self-2 g c =
     let len = source.taken - preceding in
     let form : WhereSteady before (FindsForm false (source_of before).bytes) = λ told steady.
     subst (λ s. FindsForm (has_lines s) (source_of before).bytes) c.requires ((before.sound.text told steady).form (ap is_start c.requires)) in
-    let all : WhereTold before (len + origin_of before ≡ reader.place source.inner) = λ told. omega (arith, (now.all told).0, (now.all told).1, c.if-self.false) in
+    let all : WhereTold before (len + origin_of before ≡ reader.place source.inner) =
+    λ told. omega (arith, (now.all told).0, (now.all told).1, c.if-self.false) in
     let size : WhereSteady before (len ≡ length (source_of before).bytes) = λ told steady.
     omega (arith, all told, (now.rest told steady).1, length-drop (origin_of before) content.bytes) in
     let within : WhereSteady before (len ≤ length (source_of before).bytes) = λ told steady. omega (arith, size told steady) in
@@ -52,16 +54,21 @@ invariant_of-self-2 g c =
     resumes_binary (source_of before) len (form told steady) (within told steady) in
     record {
       sound = subst (λ s. IsSound source preceding s (held_in c.clear.new.self) len false c.learn.new.self) (sym c.requires)
-          (sound-resumed before source preceding Binary (held_in c.clear.new.self) len len c.learn.new.self c.clear.ensures now.goes.keeps.same now.origin (omega (arith, c.if-self.false)) now.goes.unspent
-          (g.met.R.Read.place_fits source.inner) (λ start. absurd (true≢false (sym start))) refl (λ full. absurd (true≢false (sym (ap has_lines full))))
+          (sound-resumed before source preceding Binary
+          (held_in c.clear.new.self) len len c.learn.new.self c.clear.ensures now.goes.keeps.same now.origin
+          (omega (arith, c.if-self.false)) now.goes.unspent
+          (g.met.R.Read.place_fits source.inner) (λ start. absurd (true≢false (sym start))) refl
+          (λ full. absurd (true≢false (sym (ap has_lines full))))
           (λ told. (omega arith, resumes told))
           (λ told steady. (now.rest told steady).0 ∙ ap (λ n. from_place n content) (omega (arith, all told)))
           (λ told. (
             c.learn.ensures.knows (reader.steady before.source.inner) (source_of before)
-                (c.reach.ensures.knows (reader.steady before.source.inner) (source_of before) (before.sound.known told) (λ steady. (resumes told steady).within) (λ steady. sym (form told steady).same))
+                (c.reach.ensures.knows (reader.steady before.source.inner) (source_of before) (before.sound.known told)
+                (λ steady. (resumes told steady).within) (λ steady. sym (form told steady).same))
                 c.reach.ensures.reaches
                 (λ none steady. length_binary (source_of before) len (form told steady) (size told steady) (ends told steady))
-                (λ some. absurd (omega (arith, some))) (λ steady. omega (arith, (resumes told steady).within)) (λ steady armored some. absurd (omega (arith, some))),
+                (λ some. absurd (omega (arith, some))) (λ steady. omega (arith, (resumes told steady).within))
+                (λ steady armored some. absurd (omega (arith, some))),
             omega (arith, c.reach.ensures.reaches, c.learn.ensures.more.further),
           ))
           (λ told steady start. absurd (true≢false (sym start))) (λ told other. absurd (other refl)));
@@ -69,7 +76,8 @@ invariant_of-self-2 g c =
 
 pub returns-clause-end : goal.returns-clause-end
 returns-clause-end g c = λ told.
-    clean_binary (held_in c.clear.new.self) c.args.self.now.stage (g.R.Read.rest c.go_to_end.new.self.inner) c.clear.ensures c.requires (c.in-Ok.ensures.end told)
+    clean_binary (held_in c.clear.new.self) c.args.self.now.stage (g.R.Read.rest c.go_to_end.new.self.inner) c.clear.ensures c.requires
+    (c.in-Ok.ensures.end told)
 
 pub returns-clause-lands : goal.returns-clause-lands
 returns-clause-lands g c = record { taken = refl; shown = shown_none false (held_in c.clear.new.self) c.clear.ensures }

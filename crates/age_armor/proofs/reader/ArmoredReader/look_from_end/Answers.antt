@@ -32,7 +32,8 @@ returns-in-Err-from_end g c =
     let e = c.in-Err-from_end.e in
     let came = now.came in
     let end = came-end before new came now.end in
-    let found = found-end before new _ c.args.distance _ (Err e) came end (to_z-of_z {w = w64} c.ranges.distance) c.from_end.ensures.exact c.in-Err-from_end.is in
+    let found = found-end before new _ c.args.distance _ (Err e) came end
+    (to_z-of_z {w = w64} c.ranges.distance) c.from_end.ensures.exact c.in-Err-from_end.is in
     record {
       goes = goes-refused armored_reader _ before new new e came.same (same-self _ new) c.in-Err-from_end.ensures.other
           (elim c.in-Err-from_end.ensures.why [ inl out ↦ inl (inl out) | inr long ↦ inl (inr (inl long)) ]);
@@ -43,7 +44,8 @@ returns-in-Err-from_end g c =
         refused = λ told steady refusal. ((end told steady).0, found told steady);
         named = λ told well own other quiet.
             let len = length (armored_content before).bytes in
-            absurd (own (moved-refusal (target (End c.args.distance) before.place len) len e (found told (g.met.R.Read.well before.source.inner told well))));
+            absurd (own (moved-refusal (target (End c.args.distance) before.place len) len e
+            (found told (g.met.R.Read.well before.source.inner told well))));
       };
       finds = finds-none _ _ _;
       below = λ told steady plain. tt;
@@ -57,7 +59,8 @@ returns-then-target-len g c =
     let aim = c.in-Ok-from_end.target in
     let came = now.came in
     let end = came-end before new came now.end in
-    let found = found-end before new _ c.args.distance _ (Ok aim) came end (to_z-of_z {w = w64} c.ranges.distance) c.from_end.ensures.exact c.in-Ok-from_end.is in
+    let found = found-end before new _ c.args.distance _ (Ok aim) came end
+    (to_z-of_z {w = w64} c.ranges.distance) c.from_end.ensures.exact c.in-Ok-from_end.is in
     record {
       goes = came-goes before new came;
       text = came.text;
@@ -83,12 +86,14 @@ returns-else-target-len g c =
     let came = first.came in
     let plain = armor-plain before new came.narrows in
     let end = came-end before new came first.end in
-    let found = found-end before new _ c.args.distance _ (Ok aim) came end (to_z-of_z {w = w64} c.ranges.distance) c.from_end.ensures.exact c.in-Ok-from_end.is in
+    let found = found-end before new _ c.args.distance _ (Ok aim) came end
+    (to_z-of_z {w = w64} c.ranges.distance) c.from_end.ensures.exact c.in-Ok-from_end.is in
     record {
       goes = goes-later _ _ _ before new after came.same came.narrows (seeks-plain (OrAstray g.R.Seek.seek_refuses) before new came.narrows) now.goes;
       text = text-later before new after came.same came.text now.text;
       reaches = reaches-end before new after c.args.distance aim c.go_to.result came.same came.text found now.reaches;
-      misses = misses-end before new after c.args.distance aim c.go_to.result (g.met.R.Read.well before.source.inner) came.same came.text plain found now.goes now.misses;
+      misses = misses-end before new after c.args.distance aim c.go_to.result
+          (g.met.R.Read.well before.source.inner) came.same came.text plain found now.goes now.misses;
       finds = record {
         well = λ told steady. on_ok_weaker c.go_to.result (λ good. (end told steady).0) now.reaches.stands.good;
         knows = on_ok_weaker c.go_to.result (λ good. now.text.learns.end first.knows) now.reaches.stands.good;

@@ -51,10 +51,12 @@ invariant_of-result-2 g c =
               inside = stands.within;
               here = λ good begun. absurd (true≢false begun);
               follows = λ some.
-                  let at : reader.rest inner ≡ from_place place (reader.content inner) = starts_at (reader.content inner) (reader.rest inner) place held none inner_stands some in
+                  let at : reader.rest inner ≡ from_place place (reader.content inner) =
+                  starts_at (reader.content inner) (reader.rest inner) place held none inner_stands some in
                   record {
                     rest = stands_follows content rest 0 stands some;
-                    ending = ap (λ o. o.ending) (starts_outcome held (reader.rest inner) none) ∙ ap (λ s. (text_delivers s.bytes s.ends_well).ending) at;
+                    ending = ap (λ o. o.ending) (starts_outcome held (reader.rest inner) none)
+                        ∙ ap (λ s. (text_delivers s.bytes s.ends_well).ending) at;
                   };
               form = λ begun. absurd (true≢false begun);
               unread = λ start some. absurd (omega (arith, some, c.new-4.ensures.none.0));

@@ -38,12 +38,21 @@ invariant_of-self g c =
     let new = rest_ahead before.failed held before.stage (reader.rest source.inner) in
     let front = take n c.read.new.buf in
     let size : n ≡ length front = sym (length-take-le n c.read.new.buf now.count) in
-    let same = same-text reader before.source.inner origin source.inner next now.kept.keeps.same (λ told. ap (λ n. n + before.preceding) (now.kept.origin told)) in
+    let same = same-text reader before.source.inner origin source.inner next now.kept.keeps.same
+    (λ told. ap (λ n. n + before.preceding) (now.kept.origin told)) in
     let begun : is_start before.stage ≡ false = ap is_start c.requires.binary in
     let delivers : (IsTrue (reader.tells before.source.inner) → Delivers front rest new) = λ told.
     pass_delivers before.failed held front before.stage _ _ c.requires.good c.requires.binary c.requires.given (now.bytes told) in
     let place : (IsTrue (reader.tells source.inner) → c.saturating_add-self.result ≡ before.place + n) = λ told.
-    omega (arith, c.saturating_add-self.ensures, before.sound.counted (same.told told) c.requires.good, now.taken (same.told told), source.behind told, g.met.R.Read.place_fits source.inner told) in
+    omega (
+      arith,
+      c.saturating_add-self.ensures,
+      before.sound.counted (same.told told) c.requires.good,
+      now.taken
+          (same.told told),
+      source.behind told,
+      g.met.R.Read.place_fits source.inner told,
+    ) in
     record {
       sound = record {
         fresh = before.sound.fresh;
@@ -59,13 +68,28 @@ invariant_of-self g c =
                 none,
                 place told,
                 c.learn.ensures.reaches
-                    (omega (arith, before.sound.counted told_before c.requires.good, now.taken told_before, source.behind told, g.met.R.Read.place_fits source.inner told)) (omega (arith, pace.within)),
+                    (omega (
+                      arith,
+                      before.sound.counted told_before c.requires.good,
+                      now.taken told_before,
+                      source.behind
+                          told,
+                      g.met.R.Read.place_fits source.inner told,
+                    )) (omega (arith, pace.within)),
               );
               first = λ start. absurd (true≢false (sym start ∙ begun));
               lines = λ full. not_binary (sym c.requires.binary ∙ full);
             };
         begins = λ told. omega (arith, before.sound.begins (same.told told), now.kept.origin (same.told told));
-        fits = λ told. omega (arith, before.sound.counted (same.told told) c.requires.good, place told, now.taken (same.told told), source.behind told, g.met.R.Read.place_fits source.inner told);
+        fits = λ told. omega (
+          arith,
+          before.sound.counted (same.told told) c.requires.good,
+          place told,
+          now.taken
+              (same.told told),
+          source.behind told,
+          g.met.R.Read.place_fits source.inner told,
+        );
         known = λ told.
             let told_before = same.told told in
             let pace = before.sound.paced told_before c.requires.good in
@@ -75,9 +99,11 @@ invariant_of-self g c =
             (pass_end before.failed held before.stage _ c.requires.good c.requires.binary c.requires.given (now.end told_before none))
             (stands_inside before told_before steady) (follows_text before told_before steady))
             (λ some lines. not_binary lines)
-            (λ steady. reaches_content content rest before.place n front new.bytes (stands_inside before told_before steady) (follows_text before told_before steady)
+            (λ steady. reaches_content content rest before.place n front new.bytes (stands_inside before told_before steady)
+            (follows_text before told_before steady)
             (delivers told_before).bytes (sym size))
-            (λ steady armored. absurd (true≢false (sym armored ∙ sym ((before.sound.text told_before steady).form begun).same ∙ ap has_lines c.requires.binary))));
+            (λ steady armored. absurd (true≢false (sym armored ∙ sym ((before.sound.text told_before steady).form begun).same
+            ∙ ap has_lines c.requires.binary))));
         lined = λ told other. absurd (other c.requires.binary);
         done = λ ended. absurd (true≢false (sym ended ∙ ap is_ended c.requires.binary));
         text = λ told steady.
@@ -109,8 +135,10 @@ invariant_of-self-in-Err g c =
     let before = c.args.self.now in
     let kept = c.in-Err.ensures.kept in
     record {
-      sound = sound-failed before c.read.new.self before.preceding before.place _ kept.keeps.same (λ told. ap (λ n. n + before.preceding) (kept.origin told))
-          (λ told steady. omega (arith, (before.sound.text told steady).behind, kept.more told)) before.sound.fits (stands_inside before) (omega (arith, c.in-Err.ensures.lines));
+      sound = sound-failed before c.read.new.self before.preceding before.place _ kept.keeps.same
+          (λ told. ap (λ n. n + before.preceding) (kept.origin told))
+          (λ told steady. omega (arith, (before.sound.text told steady).behind, kept.more told)) before.sound.fits (stands_inside before)
+          (omega (arith, c.in-Err.ensures.lines));
     }
 
 pub returns-in-Ok : goal.returns-in-Ok
@@ -121,18 +149,28 @@ returns-in-Ok g c =
     let after = c.read.new.self in
     let good = c.requires.good in
     let binary = c.requires.binary in
-    let goes = armored-done {y = c.in-Ok.count} _ _ _ now.kept.keeps (λ told. ap (λ n. n + before.preceding) (now.kept.origin told)) now.kept.unspent good in
+    let goes = armored-done {y = c.in-Ok.count} _ _ _ now.kept.keeps
+    (λ told. ap (λ n. n + before.preceding) (now.kept.origin told)) now.kept.unspent good in
     record {
       reads = reads-done _ _ _ _ goes.keeps (λ some. goes.unspent) now.count
           (λ told. pass_delivers before.failed (held_in before.window) _ before.stage _ _ good binary c.requires.given (now.bytes told))
           (λ told.
           let told_now : IsTrue (reader.tells after.inner) = now.kept.keeps.same.tells ∙ told in
-          omega (arith, c.saturating_add-self.ensures, before.sound.counted told good, now.taken told, after.behind told_now, g.met.R.Read.place_fits after.inner told_now))
+          omega (
+            arith,
+            c.saturating_add-self.ensures,
+            before.sound.counted told good,
+            now.taken told,
+            after.behind
+                told_now,
+            g.met.R.Read.place_fits after.inner told_now,
+          ))
           (λ told none some. pass_end before.failed (held_in before.window) before.stage _ good binary c.requires.given (now.end told none));
       good = good-done _ _ good good;
       ending = record { same = λ told. pass_ending (held_in before.window) _ before.stage _ _ binary (now.bytes told); named = λ told fine. tt };
       why = λ told. tt;
-      text = text-moved _ _ now.kept.keeps.same (λ told. ap (λ n. n + before.preceding) (now.kept.origin told)) c.learn.ensures.more (omega (arith, now.lines))
+      text = text-moved _ _ now.kept.keeps.same (λ told. ap (λ n. n + before.preceding) (now.kept.origin told)) c.learn.ensures.more
+          (omega (arith, now.lines))
           (λ told steady plain. now.lines);
       binary = record {
         stage = binary;
@@ -151,15 +189,20 @@ returns-in-Err g c =
     let good = c.requires.good in
     let binary = c.requires.binary in
     record {
-      reads = reads-failed _ _ _ c.in-Err.e (armored-refused {B = ℕ} _ _ _ c.in-Err.e now.kept.keeps (λ told. ap (λ n. n + before.preceding) (now.kept.origin told)) (λ why. inr (want-own g.R.Read before.source.inner (text_outcome_of before).ending c.in-Err.e (want-asked g.R.Read before.source.inner c.in-Err.e now.why)))) refl refl
-          (λ told other quiet. pass_fault before.failed (held_in before.window) before.stage _ good binary c.requires.given (now.cause told other quiet));
+      reads = reads-failed _ _ _ c.in-Err.e (armored-refused {B = ℕ} _ _ _ c.in-Err.e now.kept.keeps
+          (λ told. ap (λ n. n + before.preceding) (now.kept.origin told))
+          (λ why. inr (want-own g.R.Read before.source.inner (text_outcome_of before).ending c.in-Err.e
+          (want-asked g.R.Read before.source.inner c.in-Err.e now.why)))) refl refl
+          (λ told other quiet. pass_fault before.failed (held_in before.window) before.stage _ good binary c.requires.given
+          (now.cause told other quiet));
       good = good-failed _ _ c.in-Err.e good refl now.kept.keeps.patient;
       ending = record {
         same = λ told. tt;
         named = λ told fine other quiet. pass_named (held_in before.window) before.stage _ c.in-Err.e binary (now.cause told other quiet);
       };
       why = λ told. end-asked g.R.Read before.source.inner _ c.in-Err.e now.why;
-      text = text-moved _ _ now.kept.keeps.same (λ told. ap (λ n. n + before.preceding) (now.kept.origin told)) (learns_none _ _ refl) (omega (arith, now.lines))
+      text = text-moved _ _ now.kept.keeps.same (λ told. ap (λ n. n + before.preceding) (now.kept.origin told)) (learns_none _ _ refl)
+          (omega (arith, now.lines))
           (λ told steady plain. now.lines);
       binary = record {
         stage = binary;

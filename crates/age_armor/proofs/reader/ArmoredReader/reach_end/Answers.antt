@@ -27,6 +27,7 @@ returns g c =
     let last = c.end_by_form.ensures in
     record {
       end = reaches-end-later g.R.Seek.seek_refuses before middle c.end_by_form.new.self c.end_by_form.result first.keeps first.text last.end;
-      lands = λ told steady plain. last.lands (same.tells ∙ told) (same.steady ∙ steady) (ap (λ t. begins_armor t.bytes) (first.text.same_text told) ∙ plain)
+      lands = λ told steady plain. last.lands (same.tells ∙ told) (same.steady ∙ steady)
+          (ap (λ t. begins_armor t.bytes) (first.text.same_text told) ∙ plain)
           (first.known told steady plain (omega arith));
     }

@@ -38,7 +38,8 @@ returns-then-is_passing g c =
             on_ok_weaker c.pass.result (λ good. form-found before after same now.text (ap is_start now.binary.stage) told steady) now.good.good;
         beyond = λ armored. absurd (true≢false (sym armored ∙ bare));
         untouched = λ armored. absurd (true≢false (sym armored ∙ bare));
-        spared = λ told steady armor. binary_form before.stage (source_of before) passing.0 ((before.sound.text told steady).form (ap is_start passing.0)) armor;
+        spared = λ told steady armor. binary_form before.stage (source_of before) passing.0
+            ((before.sound.text told steady).form (ap is_start passing.0)) armor;
       };
       counts = λ told. on_if c.pass.result _ _ (λ n moves. record {
         held = λ some. absurd (omega (arith, some, ap length passing.1));
@@ -76,7 +77,13 @@ returns-in-Err g c =
         spared = λ told steady armor. refl;
       };
       counts = λ told. tt;
-      learns = record { more = now.text.learns; reaches = λ told. tt; lines = (now.text.counts, now.lines); bare = now.text.bare; exact = λ told armored. tt };
+      learns = record {
+        more = now.text.learns;
+        reaches = λ told. tt;
+        lines = (now.text.counts, now.lines);
+        bare = now.text.bare;
+        exact = λ told armored. tt;
+      };
       knows = tt;
     }
 
@@ -91,11 +98,13 @@ returns-in-Ok g c =
     let n = c.give.result in
     let lines = ap (λ s. s.lines) given.reads.source in
     let back = now.goes.keeps.same in
-    let goes : Goes armored_reader refuses_of before after (Ok n) = goes-given before held after now.goes given.reads.source given.reads.preceding given.reads.fresh in
+    let goes : Goes armored_reader refuses_of before after (Ok n) =
+    goes-given before held after now.goes given.reads.source given.reads.preceding given.reads.fresh in
     let text = text-later before held after back now.text (text-still held after given.reads.source given.reads.preceding given.reads.marks) in
     let left = rest_ahead after.failed (held_in after.window) after.stage (reader.rest after.source.inner) in
     let size = held_shown held now.good.good in
-    let no_more : (n ≡ 0 → held_in held.window ≡ []) = λ none. nil_from_length (held_in held.window) (omega (arith, none, given.count, c.requires.some)) in
+    let no_more : (n ≡ 0 → held_in held.window ≡ []) =
+    λ none. nil_from_length (held_in held.window) (omega (arith, none, given.count, c.requires.some)) in
     let form = form-found before held back now.text now.holds.begun in
     record {
       reads = reads-done before after c.give.new.buf n goes.keeps (λ some. goes.unspent) (omega (arith, given.count, c.give.auto.buf))
@@ -110,7 +119,15 @@ returns-in-Ok g c =
         held = λ some. omega (arith, given.count, size, ap length ((now.holds.same some).1));
         line = λ armored.
             let shown = shown_ahead held.failed (held_in held.window) in
-            omega (arith, given.count, size, shown_small held.failed (held_in held.window) (held_few held.window), length-drop n shown, ap length given.shown);
+            omega (
+              arith,
+              given.count,
+              size,
+              shown_small held.failed (held_in held.window)
+                  (held_few held.window),
+              length-drop n shown,
+              ap length given.shown,
+            );
         form = λ some told steady. ap has_lines given.reads.stage ∙ form told steady;
         beyond = λ armored. given.beyond;
         untouched = λ armored. tt;
@@ -134,7 +151,8 @@ returns-in-Ok g c =
           let shown = shown_ahead held.failed (held_in held.window) in
           record {
             held = λ some. lines ∙ line.held some;
-            next = λ none more. lines ∙ line.next none (omega (arith, more, moves, now.holds.place, given.count, size, length-drop n shown, ap length given.shown));
+            next = λ none more. lines ∙ line.next none
+                (omega (arith, more, moves, now.holds.place, given.count, size, length-drop n shown, ap length given.shown));
           });
       knows = λ none.
           ap (λ m. is_known m.length) given.reads.marks ∙ now.holds.knows (no_more none);

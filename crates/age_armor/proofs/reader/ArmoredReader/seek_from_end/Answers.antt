@@ -8,7 +8,8 @@ use Rattle.age_armor.proofs.reader.ArmoredReader.seek_from_end.Goals as goal
 pub returns-in-Ok : goal.returns-in-Ok
 returns-in-Ok g c =
     let now = c.in-Ok.ensures in
-    let reaches = subst (λ d. Reaches c.args.self.now c.go_from_end.new.self (End d) (Ok c.in-Ok.there)) (to_z-of_z {w = w64} c.ranges.distance) now.reaches in
+    let reaches = subst (λ d. Reaches c.args.self.now c.go_from_end.new.self (End d) (Ok c.in-Ok.there))
+    (to_z-of_z {w = w64} c.ranges.distance) now.reaches in
     record {
       seeks = seek-done g.R.Seek.seek_refuses _ _ _ _ now.goes reaches;
       text = now.text;
@@ -27,7 +28,8 @@ returns-in-Err g c =
     let back = c.come_back.ensures in
     let misses = subst (λ d. Misses before middle (End d) (Err c.in-Err.e)) (to_z-of_z {w = w64} c.ranges.distance) now.misses in
     record {
-      seeks = seek-missed g.R.Seek.seek_refuses before middle after _ c.in-Err.e c.come_back.result (g.met.R.Read.well before.source.inner) now.goes misses back.back;
+      seeks = seek-missed g.R.Seek.seek_refuses before middle after _ c.in-Err.e c.come_back.result
+          (g.met.R.Read.well before.source.inner) now.goes misses back.back;
       text = text-later before middle after now.goes.keeps.same now.text back.text;
       finds = finds-none _ _ _;
       below = λ told steady plain. tt;

@@ -23,7 +23,8 @@ returns-in-Err g c =
     let now = c.in-Err.ensures in
     let back = c.come_back.ensures in
     record {
-      seeks = seek-missed g.R.Seek.seek_refuses before middle after _ c.in-Err.e c.come_back.result (g.met.R.Read.well before.source.inner) now.goes now.misses back.back;
+      seeks = seek-missed g.R.Seek.seek_refuses before middle after _ c.in-Err.e c.come_back.result
+          (g.met.R.Read.well before.source.inner) now.goes now.misses back.back;
       text = text-later before middle after now.goes.keeps.same now.text back.text;
       below = λ told steady plain. tt;
       takes = takes-back before middle after _ c.in-Err.e c.come_back.result now.goes now.spares back.back back.lines;

@@ -16,7 +16,8 @@ returns-clause-exact g c = λ told steady place.
     let is = (before.sound.known told).end c.args.len c.requires steady in
     let fits = content_short (g.R.Read.content before.source.inner) (origin_of before)
     (g.met.R.Read.are_bytes before.source.inner told) (g.met.R.Read.short before.source.inner told) in
-    from-known-end _ c.args.distance c.args.len _ c.from_end.result (to_z-of_z {w = w64} c.ranges.distance) is.same fits c.from_end.ensures.exact place
+    from-known-end _ c.args.distance c.args.len _ c.from_end.result
+    (to_z-of_z {w = w64} c.ranges.distance) is.same fits c.from_end.ensures.exact place
 
 pub returns-clause-within : goal.returns-clause-within
 returns-clause-within g c = λ told steady.
@@ -25,7 +26,8 @@ returns-clause-within g c = λ told steady.
     let met = (before.sound.known told).met c.args.len c.requires in
     let len = length (armored_content before).bytes in
     let exact : c.from_end.result ≡ sought (End c.args.distance) 0 len = returns-clause-exact g c told steady 0 in
-    IfOk-weaker c.from_end.result _ _ (λ n within. (within, omega (arith, within, is.same, met))) (aims_within c.from_end.result (target (End c.args.distance) 0 len) len exact)
+    IfOk-weaker c.from_end.result _ _ (λ n within. (within, omega (arith, within, is.same, met)))
+    (aims_within c.from_end.result (target (End c.args.distance) 0 len) len exact)
 
 pub returns-clause-outside : goal.returns-clause-outside
 returns-clause-outside g c = λ told steady.

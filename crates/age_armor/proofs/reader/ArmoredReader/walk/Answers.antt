@@ -118,19 +118,30 @@ reads-preserved g c =
       narrows = λ e h. loop.narrows e (tried-narrows refuses_of c.reads.self c.read_on.new.self reads.narrows e h);
       unspent = reads.unspent (search rules);
       good = c.in-Ok.ensures.good.good;
-      place = λ told. omega (arith, reads.moves (loop.same.tells ∙ told), loop.place told, reads.count, c.min-most.ensures, length-take c.min-most.result c.reads.room);
+      place = λ told. omega (
+        arith,
+        reads.moves
+            (loop.same.tells ∙ told),
+        loop.place told,
+        reads.count,
+        c.min-most.ensures,
+        length-take c.min-most.result c.reads.room,
+      );
       rest = λ told stands.
           further _ _ _ c.reads.self.place _ n (take n c.read_on.new.buf) (loop.rest told stands)
           (reads.bytes (loop.same.tells ∙ told)) (sym (length-take-le n c.read_on.new.buf reads.count)) (reads.moves (loop.same.tells ∙ told));
       ending = λ told. c.in-Ok.ensures.ending.same (loop.same.tells ∙ told) ∙ loop.ending told;
-      text = text-later c.args.self.now c.reads.self c.read_on.new.self loop.same loop.text (text-learned _ _ c.in-Ok.ensures.same_text c.in-Ok.ensures.learns);
+      text = text-later c.args.self.now c.reads.self c.read_on.new.self loop.same loop.text
+          (text-learned _ _ c.in-Ok.ensures.same_text c.in-Ok.ensures.learns);
       counted = λ told steady stands inside.
           let told_now = loop.same.tells ∙ told in
           let now = c.reads.self in
           let front = take n c.read_on.new.buf in
           let size : length front ≡ n = length-take-le n c.read_on.new.buf reads.count in
-          counted_on _ _ _ _ _ _ _ _ _ _ _ (c.in-Ok.ensures.counts told_now) (loop.counted told steady stands inside) (omega (arith, loop.place told, c.reads-test.true))
-          (λ none. open_stage now.failed (held_in now.window) now.stage (g.R.Read.rest now.source.inner) _ front loop.good (nil_from_length (held_in now.window) none)
+          counted_on _ _ _ _ _ _ _ _ _ _ _ (c.in-Ok.ensures.counts told_now) (loop.counted told steady stands inside)
+          (omega (arith, loop.place told, c.reads-test.true))
+          (λ none. open_stage now.failed (held_in now.window) now.stage (g.R.Read.rest now.source.inner) _ front loop.good
+          (nil_from_length (held_in now.window) none)
           (reads.bytes told_now) (omega (arith, size, c.in-Ok.count-test)));
       begun = λ told further. (c.in-Ok.ensures.counts (loop.same.tells ∙ told)).begun;
       left = omega (arith, loop.left);

@@ -61,7 +61,8 @@ returns-else-there g c =
     let new = c.walk.new.self in
     let first = c.in-Ok.ensures in
     let last = c.in-Ok-walk.ensures in
-    let came = came-on before c.approach.new.self new _ first.goes first.text first.stands last.goes last.text last.good.good last.along last.ending (stands_inside new) in
+    let came = came-on before c.approach.new.self new _ first.goes first.text first.stands last.goes last.text last.good.good last.along
+    last.ending (stands_inside new) in
     record {
       goes = came-goes before new came;
       text = came.text;

@@ -20,7 +20,8 @@ returns-then-self g c =
         refl,
         λ r. tt,
         fills-failed before before Failed
-            (goes-refused armored_reader {T = ℕ} _ before before before Failed (same-self _ before) (same-self _ before) (λ device. device) (inl (failed, refl))) refl failed
+            (goes-refused armored_reader {T = ℕ} _ before before before Failed (same-self _ before) (same-self _ before) (λ device. device)
+            (inl (failed, refl))) refl failed
             (λ told other quiet. fault_gone before.failed (held_in before.window) before.stage (g.R.Read.rest before.source.inner) failed) (
             record {
               text = record {
@@ -30,7 +31,13 @@ returns-then-self g c =
                 same_text = λ told. refl;
               };
               form = λ told steady. tt;
-              learns = record { more = learns_none _ _ refl; reaches = λ told. tt; lines = (omega arith, omega arith); bare = λ told steady plain. refl; exact = λ told armored. tt };
+              learns = record {
+                more = learns_none _ _ refl;
+                reaches = λ told. tt;
+                lines = (omega arith, omega arith);
+                bare = λ told steady plain. refl;
+                exact = λ told armored. tt;
+              };
               knows = tt;
               good = record { failed = λ had. refl; fails = failed; good = tt; patient = λ again. again };
             }
@@ -54,7 +61,13 @@ returns-in-Err g c =
                 same_text = now.text.same_text;
               };
               form = λ told steady. tt;
-              learns = record { more = now.text.learns; reaches = λ told. tt; lines = (now.text.counts, now.lines); bare = now.text.bare; exact = λ told armored. tt };
+              learns = record {
+                more = now.text.learns;
+                reaches = λ told. tt;
+                lines = (now.text.counts, now.lines);
+                bare = now.text.bare;
+                exact = λ told armored. tt;
+              };
               knows = tt;
               good = fails-passed _ _ c.in-Err.e now.good;
             }

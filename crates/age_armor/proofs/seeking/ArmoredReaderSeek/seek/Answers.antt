@@ -108,7 +108,8 @@ returns-in-Current g c =
         text = record {
           same_text = now.text.same_text;
           whole = λ told. ap (λ t. text_delivers t.bytes t.ends_well) (now.text.same_text told);
-          ending = λ told steady later good. now.ending (subst (λ d. place_at before.place d ≡ None → ⊥) (sym same) (rw c.in-Current.is at later)) told steady good;
+          ending = λ told steady later good. now.ending
+              (subst (λ d. place_at before.place d ≡ None → ⊥) (sym same) (rw c.in-Current.is at later)) told steady good;
         };
         counts = record {
           counts = now.text.counts;

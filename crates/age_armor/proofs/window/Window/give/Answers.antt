@@ -16,7 +16,8 @@ returns c =
     record {
       count = rw (held_size window) c.min-count.ensures;
       left = sym (drop-drop n window.given (take window.filled window.bytes));
-      bytes = copied-held window.bytes c.copy_from_slice.new.self (drop n c.args.buf.now) window.given window.filled n all fits c.copy_from_slice.ensures.after;
+      bytes = copied-held window.bytes c.copy_from_slice.new.self
+          (drop n c.args.buf.now) window.given window.filled n all fits c.copy_from_slice.ensures.after;
       beyond =
           let size : length c.copy_from_slice.new.self ≡ n = omega (arith, all, fits, ap length c.copy_from_slice.ensures.after) in
           drop-append-drop n c.args.buf.now c.copy_from_slice.new.self n (omega arith) size;

@@ -57,7 +57,8 @@ returns g c = let w = g.W.Write in
       left = λ told. subst (λ f. AppendsFront w.appended (text_end f s.held.items) s.inner after) (sym c.if-not-self.false)
           (rw c.deref.ensures.value at (c.write_end.ensures.front told));
       front = λ told good.
-          closes_armor w.appended g.met.W.Write.joins s after c.if-self.false c.if-not-self.false (rw c.deref.ensures.value at (c.write_end.ensures.front told));
+          closes_armor w.appended g.met.W.Write.joins s after c.if-self.false c.if-not-self.false
+          (rw c.deref.ensures.value at (c.write_end.ensures.front told));
       binary = search rules;
       same_form = search rules;
       same_tells = search rules;

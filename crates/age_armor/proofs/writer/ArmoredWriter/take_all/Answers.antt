@@ -36,7 +36,8 @@ loop-done-preserved g c =
       keeps = keeps-later g.W.Write.tells g.W.Write.faults (HandsOn g.W.Write.refuses) c.args.self.now.inner c.loop-done.self.inner _
           tt (Ok tt) before.keeps (keeps-well g.W.Write.tells g.W.Write.faults (HandsOn g.W.Write.refuses) _ _ _ tt now.inner);
       took = λ told. rw (take-add c.loop-done.done c.in_ok-done.field-0 bytes)
-          (Took-both g.W.Write.appended g.met.W.Write.joins _ _ _ _ _ (before.took told) (rw (take_rest bytes c.loop-done.done) at (now.took (before.keeps.same_tells ∙ told))));
+          (Took-both g.W.Write.appended g.met.W.Write.joins _ _ _ _ _ (before.took told)
+          (rw (take_rest bytes c.loop-done.done) at (now.took (before.keeps.same_tells ∙ told))));
     }
 
 pub returns-clause-took : goal.returns-clause-took

@@ -16,7 +16,9 @@ returns-clause-reads c =
       again = tt;
       same_content = λ told. refl;
       bytes = λ told. let before = c.args.self.now in gives-next before.bytes.now _ before.place c.count-count.result
-          (copied-next before.bytes.now c.copy_from_slice.new.self (drop c.count-count.result c.args.buf.now) before.place c.count-count.result c.count-count.ensures.there c.copy_from_slice.ensures.after);
+          (copied-next before.bytes.now c.copy_from_slice.new.self
+          (drop c.count-count.result c.args.buf.now) before.place c.count-count.result c.count-count.ensures.there
+          c.copy_from_slice.ensures.after);
       moves = λ told. refl;
       end = λ told none some.
           let room : 0 < length c.args.buf.now = search rules in

@@ -12,7 +12,8 @@ invariant_of-result c =
     let start = c.self.inside.start in
     let h = c.self.invariant in
     let j = (rw (c.in-Allowed.is, c.deref.ensures.value, take_rest t start) at c.in_ok-judged.ensures) (take start t) h.at h.lacks in
-    progress_line c.self.inside.legacy c.in-Allowed.state t c.push.new.self.items start c.len-start.result h.undecided c.in_ok-push.ensures.items (search rules) j
+    progress_line c.self.inside.legacy c.in-Allowed.state t c.push.new.self.items start c.len-start.result h.undecided c.in_ok-push.ensures.items
+    (search rules) j
 
 pub returns-in-Bad : goal.returns-in-Bad
 returns-in-Bad c =
@@ -20,7 +21,8 @@ returns-in-Bad c =
     let start = c.self.inside.start in
     let h = c.self.invariant in
     let j = (rw (c.in-Bad.is, c.deref.ensures.value, take_rest t start) at c.in_ok-judged.ensures) (take start t) h.at h.lacks in
-    subst (λ (r : ReaderValue). IsBadFront r.legacy (r.text ++ 10 ∷ [])) c.self.view_is (subst (IsBadFront c.self.inside.legacy) (sym (last_line t start)) (inr (inr j)))
+    subst (λ (r : ReaderValue). IsBadFront r.legacy (r.text ++ 10 ∷ [])) c.self.view_is
+    (subst (IsBadFront c.self.inside.legacy) (sym (last_line t start)) (inr (inr j)))
 
 pub returns-in-UnknownVersion : goal.returns-in-UnknownVersion
 returns-in-UnknownVersion c =

@@ -25,7 +25,8 @@ returns-in-Ok g c =
       io = tt;
       unspent = did.unspent;
       narrows = did.narrows;
-      header = λ told. subst (λ t. TookVerdict canonical (read.rest c.args.reader.now) (read.rest now) (read.place c.args.reader.now) (read.place now) t
+      header = λ told. subst (λ t. TookVerdict canonical (read.rest c.args.reader.now) (read.rest now) (read.place c.args.reader.now)
+          (read.place now) t
           (Header h.stanzas.items h.mac)) (only_text h.text.items h.stanzas.items h.mac did.says) (did.header told);
       refused = λ told. tt;
     }

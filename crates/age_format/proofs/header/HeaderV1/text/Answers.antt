@@ -8,5 +8,6 @@ use Rattle.age_format.proofs.header.HeaderV1.text.Goals as goal
 pub returns : goal.returns
 returns c =
     let inside = c.self.inside in
-    c.in_ok-write_mac.ensures.took ∙ ap (λ t. t ++ 32 ∷ line (columns inside.mac)) (c.in_ok-text.ensures.text ∙ ap covered_text c.as_slice.ensures.value)
+    c.in_ok-write_mac.ensures.took ∙ ap (λ t. t ++ 32 ∷ line (columns inside.mac))
+    (c.in_ok-text.ensures.text ∙ ap covered_text c.as_slice.ensures.value)
     ∙ whole_text inside.stanzas.items inside.mac ∙ ap (λ h. header_text h.stanzas h.mac) c.self.view_is

@@ -12,5 +12,7 @@ returns-in-Ok-read_file-clause-reads g c =
     inr (
       c.new.result,
       c.new.ensures.faults,
-      reads_so _ most_file_bytes (λ file. entries_of file) (λ file. entries_of file) c.new.result c.in-Ok-read_file.file c.with_name.result c.with_name.ensures.entries c.in-Ok-read_file.ensures.reads,
+      reads_so _ most_file_bytes (λ file. entries_of file)
+          (λ file. entries_of file) c.new.result c.in-Ok-read_file.file c.with_name.result c.with_name.ensures.entries
+          c.in-Ok-read_file.ensures.reads,
     )

@@ -9,7 +9,13 @@ returns-in-Err g c = λ text short here.
     let next : c.saturating_add-number.result ≡ c.args.self.finished + 1 = omega (arith, few, c.saturating_add-number.ensures) in
     elim (c.in-Err.ensures (lines here.done) (strip_carriage_return here.last) here.good (c.in-Ok.ensures here.last here.kept)) [
       | inl memory ↦ inl memory
-      | inr bad ↦ inr (c.saturating_add-number.result, bad.0, inr (text, refl), bad_line c.args.self c.saturating_add-number.result text here next bad.1)
+      | inr bad ↦ inr (
+        c.saturating_add-number.result,
+        bad.0,
+        inr
+            (text, refl),
+        bad_line c.args.self c.saturating_add-number.result text here next bad.1,
+      )
     ]
 
 pub returns-in-Ok-add : goal.returns-in-Ok-add

@@ -3,4 +3,5 @@ use Rattle.age_identity.specs.Progress.{IsAt}
 use Rattle.age_identity.proofs.parser.Parser.push_all.Given as goal
 
 abbrev pub invariant-loop-byte : goal.invariant-loop-byte
-invariant-loop-byte g l = (text : List ℕ) → length text + length l.bytes < 2 ^ 63 → IsAt l.fn.self text → IsAt l.parser (text ++ take l.byte-index l.bytes)
+invariant-loop-byte g l = (text : List ℕ) → length text + length l.bytes < 2 ^ 63 → IsAt l.fn.self text
+    → IsAt l.parser (text ++ take l.byte-index l.bytes)

@@ -20,12 +20,15 @@ returns-in-Ok-fill_buf g c =
       (
         refl,
         (λ _. tt),
-        fills_part g.R.Read g.R.BufRead.shown g.R.BufRead.besides before.inner c.fill_buf.follows.lender-at-none before.left before.past front _ c.if-self.false
+        fills_part g.R.Read g.R.BufRead.shown g.R.BufRead.besides before.inner c.fill_buf.follows.lender-at-none before.left before.past front _
+            c.if-self.false
             (take-min front.now before.left c.min.result c.min.ensures) fills,
       ),
       record {
-        front = λ told. front_within front.now _ before.left c.min.result before.past c.if-self.false c.min.ensures (c.in-Ok-fill_buf.ensures.front told);
-        end = λ told none. ends_within front.now _ before.left c.min.result before.past c.if-self.false c.min.ensures (omega (arith, c.if-self-eq0.false))
+        front = λ told. front_within front.now _ before.left c.min.result before.past c.if-self.false c.min.ensures
+            (c.in-Ok-fill_buf.ensures.front told);
+        end = λ told none. ends_within front.now _ before.left c.min.result before.past c.if-self.false c.min.ensures
+            (omega (arith, c.if-self-eq0.false))
             (c.in-Ok-fill_buf.ensures.end told) none;
         after = tt;
       },

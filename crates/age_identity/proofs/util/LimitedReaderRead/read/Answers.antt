@@ -12,4 +12,5 @@ returns-in-Ok-clause-reads g c =
     let most = c.min-most.result in
     let size : length c.read.new.buf ≡ most = grind (arith, common_steps) in
     reads_part g.R.Read before.inner c.read.new.self before.left c.in-Ok.count c.read.new.buf (drop most c.args.buf.now) _ before.past c.if-self.false
-    (omega (arith, size, c.in-Ok.ensures.reads.count, c.min-most.ensures)) refl (λ some. omega (arith, size, c.min-most.ensures, some, c.if-self-eq0.false)) c.in-Ok.ensures.reads
+    (omega (arith, size, c.in-Ok.ensures.reads.count, c.min-most.ensures)) refl
+    (λ some. omega (arith, size, c.min-most.ensures, some, c.if-self-eq0.false)) c.in-Ok.ensures.reads

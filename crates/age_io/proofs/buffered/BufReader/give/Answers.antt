@@ -22,4 +22,5 @@ returns-clause-bytes g c =
     let before = c.args.self.now in
     let copied = rw c.deref.ensures.value at c.copy_from_slice.ensures.after in
     rw c.requires (gives-held before.buffer.items _ before.given before.filled c.min-count.result (g.R.Read.rest before.inner)
-    (copied-held before.buffer.items c.copy_from_slice.new.self (drop c.min-count.result c.args.buf.now) before.given before.filled c.min-count.result before.within (omega arith) copied))
+    (copied-held before.buffer.items c.copy_from_slice.new.self
+    (drop c.min-count.result c.args.buf.now) before.given before.filled c.min-count.result before.within (omega arith) copied))

@@ -126,7 +126,8 @@ returns-after-self-clause-seeks g c =
           kept-behind old.failed c.if-self.self (held old.buffer.items old.given old.filled) between.buffer.items between.given between.filled
           (read.rest old.inner) (read.rest new) back.empty (unmoved is) (λ good.
           let sound = back.sound told steady good at in
-          seeks.kept (same.tells ∙ told) (same.steady ∙ steady) sound is ∙ sound ∙ ap (λ s. from_place (read.place between.inner) s) (same.content told)
+          seeks.kept (same.tells ∙ told) (same.steady ∙ steady) sound is ∙ sound
+          ∙ ap (λ s. from_place (read.place between.inner) s) (same.content told)
           ∙ ap (λ p. from_place p (read.content old.inner)) place ∙ sym at);
       refused = λ told well is.
           let place : read.place between.inner ≡ place_of old = omega (arith, back.empty, back.place told) in
@@ -135,5 +136,6 @@ returns-after-self-clause-seeks g c =
           subst (λ p. sought c.args.to p (length (read.content old.inner).bytes) ≡ Err e) place
           (subst (λ s. sought c.args.to (read.place between.inner) (length s.bytes) ≡ Err e) content refused);
       cause = λ told well other quiet.
-          seeks.cause (same.tells ∙ told) (ap (λ s. s.ends_well) (same.content told) ∙ well) other (quiet_from same.faults seeks.no_fewer_faults quiet);
+          seeks.cause (same.tells ∙ told) (ap (λ s. s.ends_well) (same.content told) ∙ well) other
+          (quiet_from same.faults seeks.no_fewer_faults quiet);
     }

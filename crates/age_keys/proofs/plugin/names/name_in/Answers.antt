@@ -6,4 +6,5 @@ use Rattle.age_keys.proofs.plugin.names.name_in.Goals as goal
 
 pub unreachable-requires : goal.unreachable-requires
 unreachable-requires c =
-    c.in-Err.ensures.cases.0 (IsUtf8-from_ascii c.args.bytes.now (IsAscii-from_all c.args.bytes.now (name-ascii c.args.bytes.now (sym c.is_name.ensures ∙ c.if-not-is_name.false))))
+    c.in-Err.ensures.cases.0 (IsUtf8-from_ascii c.args.bytes.now
+    (IsAscii-from_all c.args.bytes.now (name-ascii c.args.bytes.now (sym c.is_name.ensures ∙ c.if-not-is_name.false))))

@@ -6,11 +6,13 @@ use Rattle.age_keys.proofs.scrypt.stretching.factor_of.Goals as goal
 
 pub returns-then-starts_with : goal.returns-then-starts_with
 returns-then-starts_with c =
-    no_factor 43 c.args.text.now (omega arith) (ap (λ text. starts_with nat_eq text (43 ∷ [])) (sym c.as_bytes.ensures.value) ∙ sym c.if-starts_with.ensures.value)
+    no_factor 43 c.args.text.now (omega arith)
+    (ap (λ text. starts_with nat_eq text (43 ∷ [])) (sym c.as_bytes.ensures.value) ∙ sym c.if-starts_with.ensures.value)
 
 pub returns-then-starts_with-2 : goal.returns-then-starts_with-2
 returns-then-starts_with-2 c =
-    no_factor 48 c.args.text.now (omega arith) (ap (λ text. starts_with nat_eq text (48 ∷ [])) (sym c.as_bytes-2.ensures.value) ∙ sym c.if-starts_with-2.ensures.value)
+    no_factor 48 c.args.text.now (omega arith)
+    (ap (λ text. starts_with nat_eq text (48 ∷ [])) (sym c.as_bytes-2.ensures.value) ∙ sym c.if-starts_with-2.ensures.value)
 
 pub returns : goal.returns
 returns c =

@@ -12,8 +12,10 @@ pub returns-clause-refused : goal.returns-clause-refused
 returns-clause-refused g c =
     let inside = c.self.inside in
     let written = c.in-Err.ensures.writes in
-    subst (λ file. GivesUp g.W.Write.tells g.W.Write.faults g.W.Write.refuses g.W.Write.appended file c.args.output c.write_front.new.output c.in-Err.error) c.self.view_is
-    (subst (λ front. WritesAll {T = Unit {0}} g.W.Write.tells g.W.Write.faults (OrMemory (Retried g.W.Write.refuses)) g.W.Write.appended c.args.output c.write_front.new.output
+    subst (λ file. GivesUp g.W.Write.tells g.W.Write.faults g.W.Write.refuses g.W.Write.appended file c.args.output c.write_front.new.output
+    c.in-Err.error) c.self.view_is
+    (subst (λ front. WritesAll {T = Unit {0}} g.W.Write.tells g.W.Write.faults
+    (OrMemory (Retried g.W.Write.refuses)) g.W.Write.appended c.args.output c.write_front.new.output
     front (Err c.in-Err.error)) (front_is inside.file_key inside.header inside.nonce _ c.self.invariant refl) (record {
       same_tells = written.same_tells;
       no_fewer_faults = written.no_fewer_faults;
@@ -28,7 +30,8 @@ pub returns-in-Ok-clause-starts : goal.returns-in-Ok-clause-starts
 returns-in-Ok-clause-starts g c =
     let inside = c.self.inside in
     let written = c.in-Ok.ensures.writes in
-    subst (λ file. Starts g.W.Write.tells g.W.Write.faults g.W.Write.refuses g.W.Write.appended file c.args.output c.with_room.result) c.self.view_is (record {
+    subst (λ file. Starts g.W.Write.tells g.W.Write.faults g.W.Write.refuses g.W.Write.appended file c.args.output c.with_room.result)
+    c.self.view_is (record {
       inner = c.write_front.new.output;
       made = subst (λ key. WasMade key c.write_front.new.output c.with_room.result) c.payload_key_of-key.ensures c.with_room.ensures.made;
       same_tells = written.same_tells;
@@ -45,7 +48,8 @@ returns-in-Ok-clause-file g c = λ told. writes_file g.S.Suite.seal_of g.W.Write
 pub returns-in-Ok-clause-is_file : goal.returns-in-Ok-clause-is_file
 returns-in-Ok-clause-is_file g c = λ plain.
     let inside = c.self.inside in
-    subst (λ file. IsFileOf g.S.Suite.seal_of file.file_key file.stanzas plain (file_text g.S.Suite.seal_of file.file_key file.stanzas file.nonce plain)) c.self.view_is
+    subst (λ file. IsFileOf g.S.Suite.seal_of file.file_key file.stanzas plain
+    (file_text g.S.Suite.seal_of file.file_key file.stanzas file.nonce plain)) c.self.view_is
     (is_file g.S.Suite.seal_of inside.file_key inside.header inside.nonce plain c.self.invariant)
 
 pub returns-in-Ok-clause-bytes : goal.returns-in-Ok-clause-bytes

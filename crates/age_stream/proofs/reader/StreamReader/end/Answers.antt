@@ -20,7 +20,7 @@ returns-in-Err-clause-refused g c =
     record {
       fails = taken.failed.0;
       cause = λ told memory quiet.
-          end-early g.S.Suite.opened self.key self.failed self.held self.cache.last self.at self.cache.chunk.items self.number rest
+          end-early g.S.Suite.opened self.key self.failed self.held self.cache.last self.at self.cache.piece.items self.number rest
           c.requires.good c.requires.held c.requires.last c.requires.given (taken.cause (and-left _ _ told) memory quiet);
       refused = λ told memory quiet.
           let wanted : 1 ≡ wanted_of self = rw (c.requires.held, c.requires.last) refl in
@@ -55,7 +55,7 @@ returns-then-count-gt0 g c =
     let sound = self.sound told in
     refuses-after g.S.Suite.seal_of g.S.Suite.opened g.met.S.Suite.cipher self.key self.key_bytes
     (payload_at (read.place self.inner) self.taken content) (read.rest self.inner) (read.rest mid.inner)
-    self.number self.taken self.cache.last self.at self.cache.chunk.items text
+    self.number self.taken self.cache.last self.at self.cache.piece.items text
     (All-drop (λ x. x < 2 ^ 8) (read.place self.inner - self.taken) content.bytes (g.met.R.Read.are_bytes self.inner (and-left _ _ told)))
     (sound.is_held c.requires.held) c.requires.last (sound.is_past c.requires.good c.requires.held) (takes.took (and-left _ _ told)).came some in
     record {
@@ -71,7 +71,7 @@ returns-then-count-gt0 g c =
       refused = record {
         fails = c.in-Ok.ensures.failed.0;
         cause = λ told memory quiet.
-            end-more g.S.Suite.opened self.key self.failed self.held self.cache.last self.at self.cache.chunk.items self.number (read.rest self.inner)
+            end-more g.S.Suite.opened self.key self.failed self.held self.cache.last self.at self.cache.piece.items self.number (read.rest self.inner)
             (read.rest mid.inner) text c.requires.good c.requires.held c.requires.last c.requires.given (takes.took (and-left _ _ told)).came some;
         refused = λ told memory quiet. record { number = self.number; from = omega arith; to = omega (arith, self.offset); why = inr (follow told) };
         after_last = λ told memory quiet. inr refl;
@@ -87,14 +87,21 @@ returns-else-count-gt0-clause-ends g c =
     let stays = c.in-Ok.ensures.stays in
     let takes = c.in-Ok.ensures.takes in
     let text = take c.in-Ok.count mid.sealed.items in
-    let none : length text ≡ 0 = omega (arith, length-take-le c.in-Ok.count mid.sealed.items (omega (arith, takes.most, mid.room)), c.if-count-gt0.false) in
+    let none : length text ≡ 0 = omega (
+      arith,
+      length-take-le c.in-Ok.count mid.sealed.items
+          (omega (arith, takes.most, mid.room)),
+      c.if-count-gt0.false,
+    ) in
     let content = read.content self.inner in
     record {
       good = refl;
       end = λ told.
           let took = takes.took (and-left _ _ told) in
-          let is = end-clean g.S.Suite.opened self.key self.failed self.held self.cache.last self.at self.cache.chunk.items self.number (read.rest self.inner)
-          (read.rest mid.inner) text c.requires.good c.requires.held c.requires.last c.requires.given took.came none (took.ended (omega (arith, none))) in
+          let is = end-clean g.S.Suite.opened self.key self.failed self.held self.cache.last self.at self.cache.piece.items self.number
+          (read.rest self.inner)
+          (read.rest mid.inner) text c.requires.good c.requires.held c.requires.last c.requires.given took.came none
+          (took.ended (omega (arith, none))) in
           rw (stays.key, stays.held, stays.cache, stays.at, stays.number) is;
       ended = λ told.
           let t = and-left _ _ told in
@@ -103,7 +110,8 @@ returns-else-count-gt0-clause-ends g c =
           let clean = took.ended (omega (arith, none)) in
           let same = same-rest (read.rest self.inner) (read.rest mid.inner) text took.came none in
           good-end g.S.Suite.seal_of g.S.Suite.opened g.met.S.Suite.cipher self.key self.key_bytes
-          (payload_at (read.place self.inner) self.taken content) (read.rest self.inner) self.number self.taken self.at self.cache.last self.cache.chunk.items
+          (payload_at (read.place self.inner) self.taken content)
+          (read.rest self.inner) self.number self.taken self.at self.cache.last self.cache.piece.items
           (All-drop (λ x. x < 2 ^ 8) (read.place self.inner - self.taken) content.bytes (g.met.R.Read.are_bytes self.inner t))
           (sound.is_held c.requires.held) c.requires.last (sound.is_past c.requires.good c.requires.held) c.requires.given
           (record { bytes = ap (λ s. s.bytes) (sym same) ∙ clean.bytes; ends_well = ap (λ s. s.ends_well) (sym same) ∙ clean.ends_well });

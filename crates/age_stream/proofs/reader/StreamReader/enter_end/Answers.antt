@@ -14,7 +14,7 @@ use Rattle.age_v1.specs.DeliveredPayload.{IsLastChunk, text_at}
 use Rattle.age_stream.specs.ReadingLemmas.{and-left}
 use Rattle.age_stream.proofs.Inner.{past-end}
 use Rattle.age_stream.proofs.Stepping.{enters-later, keeps-at-end, step-later, step-refused}
-use Rattle.age_stream.proofs.Keeping.{payload-later, told-before, told-later, payload-done}
+use Rattle.age_stream.proofs.Keeping.{payload-later, told-before, told-later, payload-done, payload-refused}
 use Rattle.age_stream.proofs.Last.{last-place}
 use Rattle.age_stream.proofs.Moving.{sound-kept, sound-resumed}
 use Rattle.age_stream.proofs.reader.StreamReader.enter_end.Goals as goal
@@ -34,10 +34,13 @@ returns-in-Ok g c =
         arrives = λ told.
             let after = told-later read self.inner mid.inner done.keeps.inner.same told in
             let size = c.requires.size told ∙ ap (λ p. length p.bytes) (sym (done.keeps.payload told)) in
-            let place = last-place g.S.Suite.opened mid.key (shorter g.S.Suite.seal_of g.S.Suite.opened g.met.S.Suite.cipher mid.key mid.key_bytes) (payload_of mid) mid.number mid.at c.args.size c.args.len
-            mid.cache.last mid.cache.chunk.items (All-drop (λ x. x < 2 ^ 8) (read.place mid.inner - mid.taken) (read.content mid.inner).bytes (g.met.R.Read.are_bytes mid.inner (and-left _ _ after)))
+            let place = last-place g.S.Suite.opened mid.key
+            (shorter g.S.Suite.seal_of g.S.Suite.opened g.met.S.Suite.cipher mid.key mid.key_bytes)
+            (payload_of mid) mid.number mid.at c.args.size c.args.len
+            mid.cache.last mid.cache.piece.items (All-drop (λ x. x < 2 ^ 8) (read.place mid.inner - mid.taken) (read.content mid.inner).bytes
+            (g.met.R.Read.are_bytes mid.inner (and-left _ _ after)))
             ((mid.sound after).is_held (done.stays.held ∙ held.1)) size (done.stays.number ∙ held.3) c.requires.last c.requires.len in
-            omega (arith, place, c.len-self.ensures, mid.cache.chunk.ok.0);
+            omega (arith, place, c.len-self.ensures, mid.cache.piece.ok.0);
         inner_end = λ told. ap (λ s. s.ends_well) (done.stands.rest told);
       };
       refused = tt;
@@ -68,13 +71,14 @@ invariant_of-self-in-Ok g c =
     let payload = payload_at (read.place mid.inner) mid.taken (read.content mid.inner) in
     let small = (mid.chunk is_held).small in
     let in_chunk = (mid.chunk is_held).in_chunk in
-    let there : c.len-self.result ≡ length mid.cache.chunk.items = omega (arith, c.len-self.ensures, mid.cache.chunk.ok.0) in
+    let there : c.len-self.result ≡ length mid.cache.piece.items = omega (arith, c.len-self.ensures, mid.cache.piece.ok.0) in
     record {
       key_bytes = mid.key_bytes;
       room = mid.room;
       offset = omega (arith, small, there);
       limit = mid.limit;
-      chunk = λ held. moved-in mid.number mid.at c.len-self.result mid.cache _ refl refl refl refl (omega (arith, in_chunk, there)) (omega (arith, there)) (mid.chunk held);
+      chunk = λ held. moved-in mid.number mid.at c.len-self.result mid.cache _ refl refl refl refl (omega (arith, in_chunk, there))
+          (omega (arith, there)) (mid.chunk held);
       count_fits = mid.count_fits;
       unspent = λ _ _. done.stands.unspent;
       kept = λ told. let k = mid.kept told in record { first = k.first; other = k.other };
@@ -83,12 +87,15 @@ invariant_of-self-in-Ok g c =
           let same = done.keeps.payload told_before in
           let size : c.args.size ≡ length payload.bytes = c.requires.size told_before ∙ ap (λ p. length p.bytes) (sym same) in
           let number : mid.number ≡ (c.args.size - 1) / 65552 = done.stays.number ∙ held.3 in
-          let past = past-end payload (read.rest mid.inner) mid.number mid.taken mid.cache.last is_last (omega (arith, done.stands.taken told_before, size))
+          let past = past-end payload (read.rest mid.inner) mid.number mid.taken mid.cache.last is_last
+          (omega (arith, done.stands.taken told_before, size))
           (omega (arith, number, size, c.requires.last.fits))
-          (done.stands.rest told_before ∙ ap (from_place c.args.size) (sym same) ∙ ap (λ n. from_place n payload) (sym (done.stands.taken told_before))) in
-          sound-kept g.S.Suite.opened mid.key mid.failed mid.held mid.at mid.cache.chunk.items mid.cache.last mid.sought mid.number mid.taken
+          (done.stands.rest told_before ∙ ap (from_place c.args.size) (sym same)
+          ∙ ap (λ n. from_place n payload) (sym (done.stands.taken told_before))) in
+          sound-kept g.S.Suite.opened mid.key mid.failed mid.held mid.at mid.cache.piece.items mid.cache.last mid.sought mid.number mid.taken
           (read.place mid.inner) (read.content mid.inner) (read.rest mid.inner) (mid.sound told)
-          law c.len-self.result (g.met.R.Read.are_bytes mid.inner (and-left (read.tells mid.inner) (read.steady mid.inner) told)) is_held (done.failed.1 ∙ c.requires.sought) (omega (arith, there))
+          law c.len-self.result (g.met.R.Read.are_bytes mid.inner (and-left (read.tells mid.inner) (read.steady mid.inner) told)) is_held
+          (done.failed.1 ∙ c.requires.sought) (omega (arith, there))
           (λ apart e. apart (record { is_last = e.is_last; none = e.none; full = omega (arith, e.full, there, small, in_chunk) })) past;
     }
 
@@ -103,7 +110,7 @@ invariant_of-self-in-Ok-stand-3 g c =
     let judged = ap (λ k. k.judged) done.stays.cache ∙ found.0 in
     let is_last = ap (λ k. k.last) done.stays.cache ∙ found.2 in
     let whole = mid.cache.whole judged in
-    let there : c.len-self-in-Ok-stand.result ≡ length mid.cache.chunk.items = omega (arith, c.len-self-in-Ok-stand.ensures, mid.cache.chunk.ok.0) in
+    let there : c.len-self-in-Ok-stand.result ≡ length mid.cache.piece.items = omega (arith, c.len-self-in-Ok-stand.ensures, mid.cache.piece.ok.0) in
     let limit : (c.args.size - 1) / 65552 < 2 ^ 44 = omega (arith, number, whole.limit) in
     let law = shorter g.S.Suite.seal_of g.S.Suite.opened g.met.S.Suite.cipher mid.key mid.key_bytes in
     let before = told-before read self.inner mid.inner done.keeps.inner.same in
@@ -129,13 +136,17 @@ invariant_of-self-in-Ok-stand-3 g c =
           let same = done.keeps.payload told_before in
           let size : c.args.size ≡ length payload.bytes = c.requires.size told_before ∙ ap (λ p. length p.bytes) (sym same) in
           let bytes = g.met.R.Read.are_bytes mid.inner (and-left (read.tells mid.inner) (read.steady mid.inner) told) in
-          let held = subst (λ n. IsHeld g.S.Suite.opened mid.key payload n mid.cache.last 0 mid.cache.chunk.items) number ((mid.kept told).first judged) in
-          let past = past-end payload (read.rest mid.inner) ((c.args.size - 1) / 65552) mid.taken mid.cache.last is_last (omega (arith, done.stands.taken told_before, size))
+          let held = subst (λ n. IsHeld g.S.Suite.opened mid.key payload n mid.cache.last 0 mid.cache.piece.items) number
+          ((mid.kept told).first judged) in
+          let past = past-end payload (read.rest mid.inner) ((c.args.size - 1) / 65552) mid.taken mid.cache.last is_last
+          (omega (arith, done.stands.taken told_before, size))
           (omega (arith, size, c.requires.last.fits))
-          (done.stands.rest told_before ∙ ap (from_place c.args.size) (sym same) ∙ ap (λ n. from_place n payload) (sym (done.stands.taken told_before))) in
-          sound-resumed g.S.Suite.opened mid.key mid.failed mid.held mid.at mid.cache.chunk.items mid.cache.last mid.sought mid.number mid.taken
+          (done.stands.rest told_before ∙ ap (from_place c.args.size) (sym same)
+          ∙ ap (λ n. from_place n payload) (sym (done.stands.taken told_before))) in
+          sound-resumed g.S.Suite.opened mid.key mid.failed mid.held mid.at mid.cache.piece.items mid.cache.last mid.sought mid.number mid.taken
           (read.place mid.inner) (read.content mid.inner) (read.rest mid.inner) (mid.sound told)
-          law ((c.args.size - 1) / 65552) c.len-self-in-Ok-stand.result mid.cache.chunk.items mid.cache.last bytes (done.failed.1 ∙ c.requires.sought) (omega (arith, there)) held past;
+          law ((c.args.size - 1) / 65552) c.len-self-in-Ok-stand.result mid.cache.piece.items mid.cache.last bytes
+          (done.failed.1 ∙ c.requires.sought) (omega (arith, there)) held past;
     }
 
 pub returns-in-Ok-stand : goal.returns-in-Ok-stand
@@ -153,10 +164,14 @@ returns-in-Ok-stand g c =
         arrives = λ told.
             let after = told-later read self.inner mid.inner done.keeps.inner.same told in
             let size = c.requires.size told ∙ ap (λ p. length p.bytes) (sym (done.keeps.payload told)) in
-            let place = last-place g.S.Suite.opened mid.key (shorter g.S.Suite.seal_of g.S.Suite.opened g.met.S.Suite.cipher mid.key mid.key_bytes) (payload_of mid) mid.cache.number 0 c.args.size c.args.len
-            mid.cache.last mid.cache.chunk.items (All-drop (λ x. x < 2 ^ 8) (read.place mid.inner - mid.taken) (read.content mid.inner).bytes (g.met.R.Read.are_bytes mid.inner (and-left _ _ after)))
-            ((mid.kept after).first (ap (λ k. k.judged) done.stays.cache ∙ found.0)) size (ap (λ k. k.number) done.stays.cache ∙ found.1) c.requires.last c.requires.len in
-            omega (arith, place, c.len-self-in-Ok-stand.ensures, mid.cache.chunk.ok.0, ap (λ k. k.number) done.stays.cache, found.1);
+            let place = last-place g.S.Suite.opened mid.key
+            (shorter g.S.Suite.seal_of g.S.Suite.opened g.met.S.Suite.cipher mid.key mid.key_bytes)
+            (payload_of mid) mid.cache.number 0 c.args.size c.args.len
+            mid.cache.last mid.cache.piece.items (All-drop (λ x. x < 2 ^ 8) (read.place mid.inner - mid.taken) (read.content mid.inner).bytes
+            (g.met.R.Read.are_bytes mid.inner (and-left _ _ after)))
+            ((mid.kept after).first (ap (λ k. k.judged) done.stays.cache ∙ found.0)) size
+            (ap (λ k. k.number) done.stays.cache ∙ found.1) c.requires.last c.requires.len in
+            omega (arith, place, c.len-self-in-Ok-stand.ensures, mid.cache.piece.ok.0, ap (λ k. k.number) done.stays.cache, found.1);
         inner_end = λ told. ap (λ s. s.ends_well) (done.stands.rest told);
       };
       refused = tt;
@@ -172,7 +187,8 @@ returns-in-Ok-stand g c =
             ap (λ j. cond j (Some mid.cache.number) None) judged ∙ ap (λ n. Some n) there;
         keeps_last = λ good b is.
             subst (λ k. HasOne k b) (sym done.stays.cache)
-            (c.find_last.ensures.same.has b (subst (λ k. HasOne k b) (sym (c.keep_if.ensures.same (rw good refl))) (used-there c.args.self.now.cache b is)));
+            (c.find_last.ensures.same.has b (subst (λ k. HasOne k b) (sym (c.keep_if.ensures.same (rw good refl)))
+            (used-there c.args.self.now.cache b is)));
         has = λ good _ b is.
             subst (λ k. HasOne k b) (sym done.stays.cache)
             (c.find_last.ensures.same.has b (subst (λ k. HasOne k b) (sym (c.keep_if.ensures.same (rw good refl))) is));
@@ -198,7 +214,8 @@ returns-in-Ok-stand-2 g c =
       same = (last.same.0 ∙ done.stays.key, last.same.1);
       enters = on_ok_weaker c.open_last.result (enters-later self mid new number _ c.args.len done.keeps
           (λ told. omega (arith, ap (λ p. length p.bytes) (done.keeps.payload told), c.requires.size told, c.requires.len))) last.enters;
-      refused = IfErr-weaker c.open_last.result _ _ (λ e r. step-later self mid new e done.keeps last.keeps (omega (arith, done.stays.number, done.stays.at))
+      refused = IfErr-weaker c.open_last.result _ _
+          (λ e r. step-later self mid new e done.keeps last.keeps (omega (arith, done.stays.number, done.stays.at))
           (λ told bad. (
             bad.0,
             subst (λ k. g.S.Suite.opened k (chunk_nonce number true) (text_at number (payload_of self)) ≡ None) done.stays.key
@@ -217,7 +234,8 @@ returns-in-Ok-stand-2 g c =
       none = λ good is. absurd (apart good is);
       chunks = on_ok_weaker c.open_last.result (keeps-at-end self mid new number c.args.was_failed
           (λ failed b one. c.keep_if.ensures.none (rw failed refl) b (c.find_last.ensures.same.had b (subst (λ k. HasOne k b) done.stays.cache one)))
-          (λ good. ap last_used done.stays.cache ∙ c.find_last.ensures.same.same_last ∙ ap last_used (c.keep_if.ensures.same (rw good refl))) apart) last.chunks;
+          (λ good. ap last_used done.stays.cache ∙ c.find_last.ensures.same.same_last ∙ ap last_used (c.keep_if.ensures.same (rw good refl)))
+          apart) last.chunks;
     }
 
 pub returns-in-Err-clause-refused : goal.returns-in-Err-clause-refused
@@ -234,8 +252,11 @@ open_last-requires-clause-stands g c = λ told.
     let self = c.args.self.now in
     let mid = c.stand-else-find_last.new.self in
     let done = c.in-Ok-stand-2.ensures in
-    let told_before = told-before g.R.Read self.inner mid.inner done.keeps.inner.same told in
-    (done.stands.taken told_before, done.stands.rest told_before ∙ ap (from_place (65552 * final_chunk c.args.size)) (sym (done.keeps.payload told_before)))
+    let told_before = told-before g.R.Read self.inner mid.inner done.keeps.inner.same told in (
+      done.stands.taken told_before,
+      done.stands.rest told_before
+          ∙ ap (from_place (65552 * final_chunk c.args.size)) (sym (done.keeps.payload told_before)),
+    )
 
 pub open_last-requires-clause-last : goal.open_last-requires-clause-last
 open_last-requires-clause-last g c = λ told.
@@ -263,3 +284,21 @@ returns-in-Err-stand-clause-says g c = inr (inr c.in-Err-stand.ensures.says)
 
 pub returns-in-Err-stand-2-clause-says : goal.returns-in-Err-stand-2-clause-says
 returns-in-Err-stand-2-clause-says g c = inr (inr c.in-Err-stand-2.ensures.says)
+
+pub returns-in-Err-clause-keeps : goal.returns-in-Err-clause-keeps
+returns-in-Err-clause-keeps g c =
+    let self = c.args.self.now in
+    let new = c.stand.new.self in
+    payload-refused g.R.Read self.inner new.inner self.taken new.taken c.in-Err.e c.in-Err.ensures.keeps
+
+pub returns-in-Err-stand-clause-keeps : goal.returns-in-Err-stand-clause-keeps
+returns-in-Err-stand-clause-keeps g c =
+    let self = c.args.self.now in
+    let new = c.stand-then-find_last.new.self in
+    payload-refused g.R.Read self.inner new.inner self.taken new.taken c.in-Err-stand.e c.in-Err-stand.ensures.keeps
+
+pub returns-in-Err-stand-2-clause-keeps : goal.returns-in-Err-stand-2-clause-keeps
+returns-in-Err-stand-2-clause-keeps g c =
+    let self = c.args.self.now in
+    let new = c.stand-else-find_last.new.self in
+    payload-refused g.R.Read self.inner new.inner self.taken new.taken c.in-Err-stand-2.e c.in-Err-stand-2.ensures.keeps

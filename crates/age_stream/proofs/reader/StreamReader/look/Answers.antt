@@ -9,7 +9,8 @@ pub invariant_of-self : goal.invariant_of-self
 invariant_of-self g c =
     let self = c.args.self.now in
     let seek = c.in-Err.ensures.seeks in
-    reader-asked self c.seek_retrying.new.reader self.taken self.sealed.items self.failed c.requires.failed self.room seek.same_tells seek.same_steady seek.same_content
+    reader-asked self c.seek_retrying.new.reader self.taken self.sealed.items self.failed c.requires.failed self.room seek.same_tells
+    seek.same_steady seek.same_content
     (λ told. omega (arith, seek.stays (and-left _ _ told), (self.sound told).fits))
 
 pub returns-in-Ok-seek_retrying-clause-found : goal.returns-in-Ok-seek_retrying-clause-found
@@ -23,8 +24,10 @@ returns-in-Ok-seek_retrying-clause-found g c = λ told.
     let t2 = first.same_tells ∙ t in
     let s2 = first.same_steady ∙ s in
     let stayed = current-zero (read.place self.inner) (length (read.content self.inner).bytes) c.in-Ok.place (first.moves t s).0 in
-    let end = end-zero (read.place c.seek_retrying.new.reader) (length (read.content c.seek_retrying.new.reader).bytes) c.in-Ok-seek_retrying.end (second.moves t2 s2).0 in
-    let len : length (read.content c.seek_retrying.new.reader).bytes ≡ length (read.content self.inner).bytes = ap (λ k. length k.bytes) (first.same_content t) in
+    let end = end-zero (read.place c.seek_retrying.new.reader) (length (read.content c.seek_retrying.new.reader).bytes) c.in-Ok-seek_retrying.end
+    (second.moves t2 s2).0 in
+    let len : length (read.content c.seek_retrying.new.reader).bytes ≡ length (read.content self.inner).bytes =
+    ap (λ k. length k.bytes) (first.same_content t) in
     let there = second.arrives t2 in
     let within = (g.met.R.Read.stands self.inner t s).within in
     let fits = (self.sound told).fits in
@@ -41,11 +44,13 @@ invariant_of-self-in-Err-seek_retrying-2 g c =
     let first = c.in-Ok.ensures.seeks in
     let second = c.in-Err-seek_retrying.ensures.seeks in
     let content = λ (t : IsTrue (read.tells self.inner)). second.same_content (first.same_tells ∙ t) ∙ first.same_content t in
-    let start : IsTrue (read.tells self.inner && read.steady self.inner) → self.taken + (read.place self.inner - self.taken) ≡ read.place c.seek_retrying-in-Ok.new.reader = λ told.
+    let start : IsTrue (read.tells self.inner && read.steady self.inner)
+    → self.taken + (read.place self.inner - self.taken) ≡ read.place c.seek_retrying-in-Ok.new.reader = λ told.
     let t = and-left (read.tells self.inner) (read.steady self.inner) told in
     let stayed = current-zero (read.place self.inner) (length (read.content self.inner).bytes) c.in-Ok.place (first.moves t (and-right _ _ told)).0 in
     omega (arith, second.stays (first.same_tells ∙ t), first.arrives t, stayed, (self.sound told).fits) in
-    reader-asked self c.seek_retrying-in-Ok.new.reader self.taken self.sealed.items self.failed c.requires.failed self.room (second.same_tells ∙ first.same_tells) (second.same_steady ∙ first.same_steady) content start
+    reader-asked self c.seek_retrying-in-Ok.new.reader self.taken self.sealed.items self.failed c.requires.failed self.room
+    (second.same_tells ∙ first.same_tells) (second.same_steady ∙ first.same_steady) content start
 
 pub invariant_of-self-in-Ok-seek_retrying : goal.invariant_of-self-in-Ok-seek_retrying
 invariant_of-self-in-Ok-seek_retrying g c =
@@ -55,23 +60,40 @@ invariant_of-self-in-Ok-seek_retrying g c =
     let second = c.in-Ok-seek_retrying.ensures.seeks in
     let after = c.seek_retrying-in-Ok.new.reader in
     let size = c.saturating_sub-size.result in
-    let taken : (told : IsTrue (read.tells self.inner && read.steady self.inner)) → size + (read.place self.inner - self.taken) ≡ read.place after = λ told.
+    let taken : (told : IsTrue (read.tells self.inner && read.steady self.inner))
+    → size + (read.place self.inner - self.taken) ≡ read.place after = λ told.
     let t = and-left (read.tells self.inner) (read.steady self.inner) told in
     let s = and-right (read.tells self.inner) (read.steady self.inner) told in
     let t2 = first.same_tells ∙ t in
     let s2 = first.same_steady ∙ s in
     let stayed = current-zero (read.place self.inner) (length (read.content self.inner).bytes) c.in-Ok.place (first.moves t s).0 in
-    let end = end-zero (read.place c.seek_retrying.new.reader) (length (read.content c.seek_retrying.new.reader).bytes) c.in-Ok-seek_retrying.end (second.moves t2 s2).0 in
-    let len : length (read.content c.seek_retrying.new.reader).bytes ≡ length (read.content self.inner).bytes = ap (λ k. length k.bytes) (first.same_content t) in
-    omega (arith, c.saturating_sub-start.ensures, stayed, second.arrives t2, c.saturating_sub-size.ensures, end, len, (g.met.R.Read.stands self.inner t s).within, (self.sound told).fits) in
+    let end = end-zero (read.place c.seek_retrying.new.reader) (length (read.content c.seek_retrying.new.reader).bytes) c.in-Ok-seek_retrying.end
+    (second.moves t2 s2).0 in
+    let len : length (read.content c.seek_retrying.new.reader).bytes ≡ length (read.content self.inner).bytes =
+    ap (λ k. length k.bytes) (first.same_content t) in
+    omega (
+      arith,
+      c.saturating_sub-start.ensures,
+      stayed,
+      second.arrives
+          t2,
+      c.saturating_sub-size.ensures,
+      end,
+      len,
+      (g.met.R.Read.stands self.inner t s).within,
+      (self.sound told).fits,
+    ) in
     let content = λ (t : IsTrue (read.tells self.inner)). second.same_content (first.same_tells ∙ t) ∙ first.same_content t in
-    reader-asked self after size self.sealed.items self.failed c.requires.failed self.room (second.same_tells ∙ first.same_tells) (second.same_steady ∙ first.same_steady) content taken
+    reader-asked self after size self.sealed.items self.failed c.requires.failed self.room (second.same_tells ∙ first.same_tells)
+    (second.same_steady ∙ first.same_steady) content taken
 
 pub returns-in-Err-clause-says : goal.returns-in-Err-clause-says
 returns-in-Err-clause-says g c =
-    sought-named g.R.Read g.R.Seek.seek_refuses c.args.self.now.inner c.seek_retrying.new.reader c.in-Err.e c.lost.result c.lost.ensures c.in-Err.ensures.seeks
+    sought-named g.R.Read g.R.Seek.seek_refuses c.args.self.now.inner c.seek_retrying.new.reader c.in-Err.e c.lost.result c.lost.ensures
+    c.in-Err.ensures.seeks
 
 pub returns-in-Err-seek_retrying-clause-says : goal.returns-in-Err-seek_retrying-clause-says
 returns-in-Err-seek_retrying-clause-says g c =
-    sought-named g.R.Read g.R.Seek.seek_refuses c.seek_retrying.new.reader c.seek_retrying-in-Ok.new.reader c.in-Err-seek_retrying.e c.lost-in-Err-seek_retrying.result
+    sought-named g.R.Read g.R.Seek.seek_refuses c.seek_retrying.new.reader c.seek_retrying-in-Ok.new.reader c.in-Err-seek_retrying.e
+    c.lost-in-Err-seek_retrying.result
     c.lost-in-Err-seek_retrying.ensures c.in-Err-seek_retrying.ensures.seeks

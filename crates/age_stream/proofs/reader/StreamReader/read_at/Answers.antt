@@ -132,8 +132,10 @@ returns-in-Err-read_full-clause-refuses g c =
           let calm : IsQuiet (g.R.Read.faults mid.inner) (g.R.Read.faults c.read_full.new.self.inner) =
           record { same = omega (arith, seek.seeks.no_fewer_faults, read.keeps.inner.same.faults, quiet.same); below = quiet.below } in
           let near = read.refused.refused (seek.seeks.same_tells ∙ told) memory calm (seek.leaves.inner_end told ∙ well) in
-          let stops = subst (λ p. StopsNear g.S.Suite.seal_of self.key p.bytes (place_of c.read_full.new.self) c.in-Err-read_full.e) (seek.leaves.payload told)
-          (subst (λ k. StopsNear g.S.Suite.seal_of k (payload_of mid).bytes (place_of c.read_full.new.self) c.in-Err-read_full.e) seek.leaves.key near) in
+          let stops = subst (λ p. StopsNear g.S.Suite.seal_of self.key p.bytes (place_of c.read_full.new.self) c.in-Err-read_full.e)
+          (seek.leaves.payload told)
+          (subst (λ k. StopsNear g.S.Suite.seal_of k (payload_of mid).bytes (place_of c.read_full.new.self) c.in-Err-read_full.e) seek.leaves.key
+          near) in
           let there : place_of mid ≡ c.in-Ok._start = seek.seeks.arrives told in
           inr (record {
             start = c.in-Ok._start;
@@ -183,7 +185,8 @@ returns-in-Err-read_full-clause-chunks g c = λ told chunk inside.
     let seek = c.in-Ok.ensures in
     let there : place_of mid ≡ c.in-Ok._start = seek.seeks.arrives told in
     let start : c.in-Ok._start ≡ inside.start = same-start _ _ _ (seek.target.order told) inside.leads in
-    let full = c.in-Err-read_full.ensures.one (seek.seeks.same_tells ∙ told) chunk (omega (arith, inside.from, there, start)) (omega (arith, inside.within, there, start)) in
+    let full = c.in-Err-read_full.ensures.one (seek.seeks.same_tells ∙ told) chunk (omega (arith, inside.from, there, start))
+    (omega (arith, inside.within, there, start)) in
     let none = seek.opens.end told inside.before in
     let number : chunk ≡ c.in-Ok._start / 65536 = omega (arith, inside.from, inside.within, inside.some, start) in
     record {
@@ -234,7 +237,8 @@ returns-in-Ok-read_full-clause-gives g c =
             omega (arith, there, read.moves.1),
             subst (λ n. StandAt g.S.Suite.seal_of self.key (payload_of self).bytes n came) there
                 (subst (λ p. StandAt g.S.Suite.seal_of self.key p.bytes (place_of mid) came) (seek.leaves.payload told)
-                (subst (λ k. StandAt g.S.Suite.seal_of k (payload_of mid).bytes (place_of mid) came) seek.leaves.key (read.reads.stored (seek.seeks.same_tells ∙ told)))),
+                (subst (λ k. StandAt g.S.Suite.seal_of k (payload_of mid).bytes (place_of mid) came) seek.leaves.key
+                (read.reads.stored (seek.seeks.same_tells ∙ told)))),
           );
       cursor = λ told well.
           let self = c.args.self.now in
@@ -320,7 +324,8 @@ returns-in-Ok-read_full-clause-chunks g c = λ told chunk inside.
     let none = seek.opens.end told inside.before in
     let number : chunk ≡ c.in-Ok._start / 65536 = omega (arith, inside.from, inside.within, inside.some, start) in
     let holding = λ (has : HasChunk self chunk). seek.chunks.finds told inside.before (subst (λ n. HasChunk self n) number has) in
-    let some = in-chunk-some (length (payload_of self).bytes) c.args.to (place_of self) (length c.read_full.new.buf) chunk c.read_full.new.filled (place_of new) inside
+    let some = in-chunk-some (length (payload_of self).bytes) c.args.to (place_of self) (length c.read_full.new.buf) chunk c.read_full.new.filled
+    (place_of new) inside
     (omega (arith, read.moves.1, there, start))
     (λ less. ap (λ p. plain_len (length p.bytes)) (sym (seek.leaves.payload told)) ∙ (read.reads.ended told_mid less).length_is) in
     let uses = full.uses some in

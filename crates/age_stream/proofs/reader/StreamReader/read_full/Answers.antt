@@ -20,7 +20,8 @@ reads-preserved g c =
     let read = c.in-Ok.ensures in
     let got = read.reads in
     record {
-      keeps = payload-done g.R.Read _ _ _ _ (payload-later g.R.Read _ c.args.self.now.inner c.reads.self.inner c.read_on.new.self.inner _ _ _ before.keeps
+      keeps = payload-done g.R.Read _ _ _ _ (payload-later g.R.Read _ c.args.self.now.inner c.reads.self.inner c.read_on.new.self.inner _ _ _
+          before.keeps
           (payload-more g.R.Read _ _ _ _ _ (stops-kept c.args.self.now c.reads.self before.keeps before.same_key) read.keeps));
       within = grind (arith, common_steps);
       good = read.moves.good;
@@ -35,19 +36,26 @@ reads-preserved g c =
           let k = length c.reads.buf - c.reads.filled in
           let filled = take-filled c.reads.filled k c.in-Ok.n c.reads.buf c.read_on.new.buf before.within got.count in
           let long : length (take c.reads.filled c.reads.buf) ≡ c.reads.filled = length-take-le c.reads.filled c.reads.buf before.within in
-          let there : place_of c.reads.self ≡ place_of c.args.self.now + length (take c.reads.filled c.reads.buf) = omega (arith, before.moved, long) in
-          let given = stand-given g.S.Suite.seal_of c.reads.self.key (payload_of c.reads.self) (place_of c.reads.self) _ _ (read.answers.gives (later told) (omega (arith, c.if-n-eq0.false))) in
-          rw filled (stand-joined g.S.Suite.seal_of c.args.self.now.key (payload_of c.args.self.now).bytes (place_of c.args.self.now) (take c.reads.filled c.reads.buf) (take c.in-Ok.n c.read_on.new.buf)
+          let there : place_of c.reads.self ≡ place_of c.args.self.now + length (take c.reads.filled c.reads.buf) =
+          omega (arith, before.moved, long) in
+          let given = stand-given g.S.Suite.seal_of c.reads.self.key (payload_of c.reads.self) (place_of c.reads.self) _ _
+          (read.answers.gives (later told) (omega (arith, c.if-n-eq0.false))) in
+          rw filled (stand-joined g.S.Suite.seal_of c.args.self.now.key (payload_of c.args.self.now).bytes (place_of c.args.self.now)
+          (take c.reads.filled c.reads.buf) (take c.in-Ok.n c.read_on.new.buf)
           (before.stored told)
           (subst (λ p. StandAt g.S.Suite.seal_of c.args.self.now.key (payload_of c.args.self.now).bytes p (take c.in-Ok.n c.read_on.new.buf)) there
-          (subst (λ p. StandAt g.S.Suite.seal_of c.args.self.now.key p.bytes (place_of c.reads.self) (take c.in-Ok.n c.read_on.new.buf)) (before.keeps.payload told)
-          (subst (λ k. StandAt g.S.Suite.seal_of k (payload_of c.reads.self).bytes (place_of c.reads.self) (take c.in-Ok.n c.read_on.new.buf)) before.same_key given))));
+          (subst (λ p. StandAt g.S.Suite.seal_of c.args.self.now.key p.bytes (place_of c.reads.self) (take c.in-Ok.n c.read_on.new.buf))
+          (before.keeps.payload told)
+          (subst (λ k. StandAt g.S.Suite.seal_of k (payload_of c.reads.self).bytes (place_of c.reads.self) (take c.in-Ok.n c.read_on.new.buf))
+          before.same_key given))));
       inner_end = λ told. read.answers.inner_end (later told) ∙ before.inner_end told;
       counted = omega (arith, before.counted, read.opens.counts);
       one = λ chunk from within.
-          let long : length (put_mid c.reads.filled (length c.reads.buf - c.reads.filled) c.reads.buf c.read_on.new.buf) ≡ length c.reads.buf = grind (arith, common_steps) in
+          let long : length (put_mid c.reads.filled (length c.reads.buf - c.reads.filled) c.reads.buf c.read_on.new.buf) ≡ length c.reads.buf =
+          grind (arith, common_steps) in
           let fits : place_of c.args.self.now + length c.reads.buf ≤ 65536 * chunk + 65536 = omega (arith, within, long) in
-          in-one-more c.args.self.now c.reads.self c.read_on.new.self chunk c.reads.filled (length c.reads.buf) from fits c.reads-test.true before.moved before.good
+          in-one-more c.args.self.now c.reads.self c.read_on.new.self chunk c.reads.filled
+          (length c.reads.buf) from fits c.reads-test.true before.moved before.good
           (before.one chunk from fits) c.in-Ok.n read.opens read.chunks (omega (arith, c.if-n-eq0.false));
     }
 
@@ -71,7 +79,8 @@ returns-then-n-eq0 g c =
         bytes = λ told.
             let filled = take-filled c.reads.filled k c.in-Ok.n c.reads.buf c.read_on.new.buf before.within read.reads.count in
             let none : c.reads.filled + c.in-Ok.n ≡ c.reads.filled = omega (arith, c.if-n-eq0.true) in
-            subst (λ m. Delivers (take m (put_mid c.reads.filled k c.reads.buf c.read_on.new.buf)) (plain_rest_of self) (plain_rest_of c.read_on.new.self)) none
+            subst (λ m. Delivers (take m (put_mid c.reads.filled k c.reads.buf c.read_on.new.buf)) (plain_rest_of self)
+            (plain_rest_of c.read_on.new.self)) none
             (rw filled (Delivers-joined _ _ _ _ _ (before.so_far told) (read.reads.bytes (later told))));
         stored = λ told. rw same (before.stored told);
         end = search rules;
@@ -124,9 +133,11 @@ returns-in-Err g c =
       };
       opens = (omega (arith, before.counted, read.opens.counts), search rules);
       one = λ told chunk from within.
-          let long : length (put_mid c.reads.filled (length c.reads.buf - c.reads.filled) c.reads.buf c.read_on.new.buf) ≡ length c.reads.buf = grind (arith, common_steps) in
+          let long : length (put_mid c.reads.filled (length c.reads.buf - c.reads.filled) c.reads.buf c.read_on.new.buf) ≡ length c.reads.buf =
+          grind (arith, common_steps) in
           let fits : place_of self + length c.reads.buf ≤ 65536 * chunk + 65536 = omega (arith, within, long) in
-          let opens = in-one-opens self mid c.read_on.new.self chunk c.reads.filled (length c.reads.buf) from fits c.reads-test.true before.moved before.good
+          let opens = in-one-opens self mid c.read_on.new.self chunk c.reads.filled
+          (length c.reads.buf) from fits c.reads-test.true before.moved before.good
           (before.one chunk from fits) (Err c.in-Err.e) read.opens read.chunks in
           record { opens = opens.0; none = opens.1; uses = tt; keeps_last = tt; keeps = λ _. tt };
     }
@@ -150,4 +161,5 @@ returns-clause-opens g c =
     (before.counted, omega (arith, before.spared, before.moved, before.within, c.args.self.now.offset))
 
 pub returns-clause-one : goal.returns-clause-one
-returns-clause-one g c = λ told chunk from within. in-one-full c.args.self.now c.reads.self chunk c.reads.filled (c.reads.invariant.one chunk from within)
+returns-clause-one g c = λ told chunk from within. in-one-full c.args.self.now c.reads.self chunk c.reads.filled
+    (c.reads.invariant.one chunk from within)

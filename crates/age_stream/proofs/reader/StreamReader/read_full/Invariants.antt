@@ -18,10 +18,12 @@ invariant-reads g l =
       moved : 65536 * l.self.number + l.self.at ≡ 65536 * l.fn.self.number + l.fn.self.at + l.filled;
       so_far : IsTrue (tells_of l.fn.self) → Delivers (take l.filled l.buf) (plain_rest_of l.fn.self) (plain_rest_of l.self);
       spared : l.self.opens + spare l.self.held l.self.cache.last + l.fn.self.number ≤ l.fn.self.opens + 2 + l.self.number;
-      stored : IsTrue (tells_of l.fn.self) → StandAt g.S.Suite.seal_of l.fn.self.key (payload_of l.fn.self).bytes (place_of l.fn.self) (take l.filled l.buf);
+      stored : IsTrue (tells_of l.fn.self) → StandAt g.S.Suite.seal_of l.fn.self.key (payload_of l.fn.self).bytes (place_of l.fn.self)
+          (take l.filled l.buf);
       inner_end : IsTrue (tells_of l.fn.self) → (read.rest l.self.inner).ends_well ≡ (read.rest l.fn.self.inner).ends_well;
       counted : l.fn.self.opens ≤ l.self.opens;
-      one : (chunk : ℕ) → 65536 * chunk ≤ place_of l.fn.self → place_of l.fn.self + length l.buf ≤ 65536 * chunk + 65536 → InOne l.fn.self l.self chunk l.filled;
+      one : (chunk : ℕ) → 65536 * chunk ≤ place_of l.fn.self → place_of l.fn.self + length l.buf ≤ 65536 * chunk + 65536
+          → InOne l.fn.self l.self chunk l.filled;
     }
 
 abbrev pub decreases-reads : goal.decreases-reads

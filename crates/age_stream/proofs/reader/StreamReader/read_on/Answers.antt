@@ -41,7 +41,14 @@ returns-in-Err g c =
       says = record { itself = λ _. done.says; after = λ is. absurd (apart is) };
       reads = reads-refused self new buf c.in-Err.e done.keeps done.stays.key done.stays.place done.refused.fails done.refused.cause;
       keeps = payload-refused g.R.Read _ _ _ _ _ done.keeps;
-      moves = record { key = done.stays.key; sought = done.stays.sought; good = tt; fails = done.refused.fails; placed = tt; stayed = done.stays.place };
+      moves = record {
+        key = done.stays.key;
+        sought = done.stays.sought;
+        good = tt;
+        fails = done.refused.fails;
+        placed = tt;
+        stayed = done.stays.place;
+      };
       answers = answers-refused self new buf c.in-Err.e apart done.refused;
       opens = record { counts = done.opens.counts; most = done.opens.most; none = done.opens.none; spared = tt; spent = done.opens.spent };
       chunks = chunks-refused self new buf c.in-Err.e apart;
@@ -53,7 +60,8 @@ returns-in-Ok-clause-reads g c =
     let done = c.in-Ok.ensures in
     let given = c.give.ensures in
     reads-given c.args.self.now c.hold.new.self c.give.new.self c.args.buf.now c.give.new.buf c.give.result
-    (rw (given.held.inner, given.held.taken) (payload-done g.R.Read _ _ _ _ done.keeps)) done.stays done.holds given.held given.moves given.bytes given.count c.give.auto.buf
+    (rw (given.held.inner, given.held.taken) (payload-done g.R.Read _ _ _ _ done.keeps)) done.stays done.holds given.held given.moves given.bytes
+    given.count c.give.auto.buf
 
 pub returns-in-Ok-clause-keeps : goal.returns-in-Ok-clause-keeps
 returns-in-Ok-clause-keeps g c = rw (c.give.ensures.held.inner, c.give.ensures.held.taken) (payload-done g.R.Read _ _ _ _ c.in-Ok.ensures.keeps)
@@ -100,7 +108,8 @@ returns-in-Ok-clause-opens g c =
     let new = c.give.new.self in
     let few = c.in-Ok.ensures.opens in
     let held = c.give.ensures.held in
-    let same : spare new.held new.cache.last ≡ spare mid.held mid.cache.last = ap (λ h. spare h new.cache.last) held.held ∙ ap (λ l. spare mid.held l) held.last in
+    let same : spare new.held new.cache.last ≡ spare mid.held mid.cache.last =
+    ap (λ h. spare h new.cache.last) held.held ∙ ap (λ l. spare mid.held l) held.last in
     record {
       counts = omega (arith, held.opens, few.counts);
       most = omega (arith, held.opens, few.most);
@@ -128,8 +137,11 @@ returns-in-Ok-clause-chunks g c =
       has = λ here b one. elim here [ inl is ↦ given.held.has b (done.holds.has is b one) | inr is ↦ absurd (apart is) ];
       same_last = λ is. absurd (apart is);
       finds = λ some apart has.
-          let held : new.held ≡ true = given.held.held ∙ done.holds.good.1 in
-          (given.held.good, comes new.held new.number new.at new.cache held ((new.chunk held).in_chunk) ((new.chunk held).small) ((new.chunk held).full) ((new.chunk held).first) apart has);
+          let held : new.held ≡ true = given.held.held ∙ done.holds.good.1 in (
+            given.held.good,
+            comes new.held new.number new.at new.cache held ((new.chunk held).in_chunk) ((new.chunk held).small)
+                ((new.chunk held).full) ((new.chunk held).first) apart has,
+          );
     }
 
 pub give-requires-clause-good : goal.give-requires-clause-good

@@ -82,8 +82,10 @@ returns-in-Err g c =
     let self = c.args.self.now in
     let new = c.look.new.self in
     let look = c.in-Err.ensures in
-    seek-refused g.R.Seek.seek_refuses self new c.args.to c.in-Err.e c.requires (payload-refused g.R.Read self.inner new.inner self.taken new.taken c.in-Err.e look.keeps)
-    look.stays.key look.failed.0 look.refused.place look.refused.refusal (omega (arith, look.stays.opens)) (omega (arith, look.stays.opens)) (λ _ _. look.stays.opens) (λ _ _. look.stays.opens)
+    seek-refused g.R.Seek.seek_refuses self new c.args.to c.in-Err.e c.requires
+    (payload-refused g.R.Read self.inner new.inner self.taken new.taken c.in-Err.e look.keeps)
+    look.stays.key look.failed.0 look.refused.place look.refused.refusal (omega (arith, look.stays.opens)) (omega (arith, look.stays.opens))
+    (λ _ _. look.stays.opens) (λ _ _. look.stays.opens)
     (λ told well memory quiet. absurd (look.refused.cause told well memory quiet)) (λ told well _. look.refused.cause told well)
     (λ told. inr (inr look.says))
 
@@ -98,16 +100,20 @@ returns-then-not-is_outside g c =
     let find = c.in-Err-find.ensures.refused in
     let e = c.in-Err-find.e in
     let other = c.if-not-is_outside.ensures.no refl in
-    let err = λ (told : IsTrue (tells_of self)). subst (λ n. in_length (plain_len n) c.args.to (place_of self) ≡ Err e) (look.found told).2 find.err in
+    let err = λ (told : IsTrue (tells_of self)). subst (λ n. in_length (plain_len n) c.args.to (place_of self) ≡ Err e)
+    (look.found told).2 find.err in
     seek-refused g.R.Seek.seek_refuses self new c.args.to e c.requires
     (payload-ended read self.inner new.inner self.taken new.taken e look.keeps find.not_device (own-refusal g.R.Seek.seek_refuses e find.named))
-    look.stays.key look.failed.0 (omega (arith, look.stays.number, look.stays.at)) other (omega (arith, look.stays.opens)) (omega (arith, look.stays.opens))
+    look.stays.key look.failed.0 (omega (arith, look.stays.number, look.stays.at)) other (omega (arith, look.stays.opens))
+    (omega (arith, look.stays.opens))
     (λ _ _. look.stays.opens) (λ _ _. look.stays.opens)
     (λ told well memory quiet. inl (rw c.requires (err told)))
     (λ told whole well memory quiet.
-    let are = All-drop (λ x. x < 2 ^ 8) (read.place self.inner - self.taken) (read.content self.inner).bytes (g.met.R.Read.are_bytes self.inner (and-left _ _ told)) in
+    let are = All-drop (λ x. x < 2 ^ 8) (read.place self.inner - self.taken) (read.content self.inner).bytes
+    (g.met.R.Read.are_bytes self.inner (and-left _ _ told)) in
     other (sought-refuses c.args.to (place_of self) _ e
-    (err-well suite.opened self.key (shorter suite.seal_of suite.opened g.met.S.Suite.cipher self.key self.key_bytes) (payload_of self) are well c.args.to (place_of self) e (err told))))
+    (err-well suite.opened self.key (shorter suite.seal_of suite.opened g.met.S.Suite.cipher self.key self.key_bytes)
+    (payload_of self) are well c.args.to (place_of self) e (err told))))
     (λ told. inl (inl (rw c.requires (err told))))
 
 pub returns-in-Err-stand : goal.returns-in-Err-stand
@@ -119,10 +125,13 @@ returns-in-Err-stand g c =
     let new = c.stand.new.self in
     let e = c.in-Err-stand.fault in
     let opens = done.stays.opens ∙ look.stays.opens in
-    let refused = step-later self mid new {More = λ _. ⊥} e look.keeps done.keeps (omega (arith, look.stays.number, look.stays.at)) (λ _ none. none) done.refused in
+    let refused = step-later self mid new {More = λ _. ⊥} e look.keeps done.keeps (omega (arith, look.stays.number, look.stays.at))
+    (λ _ none. none) done.refused in
     seek-refused g.R.Seek.seek_refuses self new c.args.to e c.requires
-    (payload-later g.R.Read (Err e) self.inner mid.inner new.inner self.taken mid.taken new.taken look.keeps (payload-refused g.R.Read mid.inner new.inner mid.taken new.taken e done.keeps))
-    (done.stays.key ∙ look.stays.key) refused.fails refused.place refused.refusal (omega (arith, opens)) (omega (arith, opens)) (λ _ _. opens) (λ _ _. opens)
+    (payload-later g.R.Read (Err e) self.inner mid.inner new.inner self.taken mid.taken new.taken look.keeps
+    (payload-refused g.R.Read mid.inner new.inner mid.taken new.taken e done.keeps))
+    (done.stays.key ∙ look.stays.key) refused.fails refused.place refused.refusal (omega (arith, opens)) (omega (arith, opens)) (λ _ _. opens)
+    (λ _ _. opens)
     (λ told well memory quiet. absurd (refused.cause told well memory quiet)) (λ told well _. refused.cause told well)
     (λ told. inr (inr done.says))
 
@@ -135,10 +144,13 @@ returns-in-Err-enter g c =
     let new = c.enter.new.self in
     let e = c.in-Err-enter.e in
     let opens = done.same.2 ∙ look.stays.opens in
-    let refused = step-later self mid new {More = λ _. ⊥} e look.keeps done.keeps (omega (arith, look.stays.number, look.stays.at)) (λ _ none. none) done.refused in
+    let refused = step-later self mid new {More = λ _. ⊥} e look.keeps done.keeps (omega (arith, look.stays.number, look.stays.at))
+    (λ _ none. none) done.refused in
     seek-refused g.R.Seek.seek_refuses self new c.args.to e c.requires
-    (payload-later g.R.Read (Err e) self.inner mid.inner new.inner self.taken mid.taken new.taken look.keeps (payload-refused g.R.Read mid.inner new.inner mid.taken new.taken e done.keeps))
-    (done.same.0 ∙ look.stays.key) refused.fails refused.place refused.refusal (omega (arith, opens)) (omega (arith, opens)) (λ _ _. opens) (λ _ _. opens)
+    (payload-later g.R.Read (Err e) self.inner mid.inner new.inner self.taken mid.taken new.taken look.keeps
+    (payload-refused g.R.Read mid.inner new.inner mid.taken new.taken e done.keeps))
+    (done.same.0 ∙ look.stays.key) refused.fails refused.place refused.refusal (omega (arith, opens)) (omega (arith, opens)) (λ _ _. opens)
+    (λ _ _. opens)
     (λ told well memory quiet. absurd (refused.cause told well memory quiet)) (λ told well _. refused.cause told well)
     (λ told. inr (inr done.says))
 
@@ -158,31 +170,53 @@ returns-in-Err-enter_end g c =
     let size : IsTrue (tells_of self) → c.in-Ok.size ≡ length payload.bytes = λ told. (look.found told).2 in
     let at_end : IsTrue (tells_of self) → ToEnd self c.args.to = λ told.
     let same = size told in
-    is-end c.args.to (place_of self) (length payload.bytes) c.in-Ok-find.target c.in-Ok-find.len (rw same at find.plain) c.requires (rw same at find.ok) c.if-target-len.true in
+    is-end c.args.to (place_of self) (length payload.bytes) c.in-Ok-find.target c.in-Ok-find.len (rw same at find.plain) c.requires
+    (rw same at find.ok) c.if-target-len.true in
     let are = λ (told : IsTrue (tells_of self)).
-    All-drop (λ x. x < 2 ^ 8) (read.place self.inner - self.taken) (read.content self.inner).bytes (g.met.R.Read.are_bytes self.inner (and-left _ _ told)) in
-    let no_last : IsTrue (tells_of self) → IsNoLast mid (final_chunk c.in-Ok.size) e → IsNoLast self (final_chunk (length payload.bytes)) e = λ told bad. (
+    All-drop (λ x. x < 2 ^ 8) (read.place self.inner - self.taken) (read.content self.inner).bytes
+    (g.met.R.Read.are_bytes self.inner (and-left _ _ told)) in
+    let no_last : IsTrue (tells_of self) → IsNoLast mid (final_chunk c.in-Ok.size) e → IsNoLast self (final_chunk (length payload.bytes)) e =
+    λ told bad. (
       bad.0,
       subst (λ n. suite.opened self.key (chunk_nonce (final_chunk n) true) (text_at (final_chunk n) payload) ≡ None) (size told)
-          (subst (λ k. suite.opened k (chunk_nonce (final_chunk c.in-Ok.size) true) (text_at (final_chunk c.in-Ok.size) payload) ≡ None) look.stays.key
-          (subst (λ p. suite.opened mid.key (chunk_nonce (final_chunk c.in-Ok.size) true) (text_at (final_chunk c.in-Ok.size) p) ≡ None) (look.keeps.payload told) bad.1)),
+          (subst (λ k. suite.opened k (chunk_nonce (final_chunk c.in-Ok.size) true) (text_at (final_chunk c.in-Ok.size) payload) ≡ None)
+          look.stays.key
+          (subst (λ p. suite.opened mid.key (chunk_nonce (final_chunk c.in-Ok.size) true) (text_at (final_chunk c.in-Ok.size) p) ≡ None)
+          (look.keeps.payload told) bad.1)),
     ) in
-    let refused = step-later self mid new {More = IsNoLast self (final_chunk (length payload.bytes))} e look.keeps done.keeps (omega (arith, look.stays.number, look.stays.at))
+    let refused = step-later self mid new {More = IsNoLast self (final_chunk (length payload.bytes))} e look.keeps done.keeps
+    (omega (arith, look.stays.number, look.stays.at))
     no_last done.refused in
     seek-refused g.R.Seek.seek_refuses self new c.args.to e c.requires
-    (payload-later read (Err e) self.inner mid.inner new.inner self.taken mid.taken new.taken look.keeps (payload-refused read mid.inner new.inner mid.taken new.taken e done.keeps))
-    (done.same.0 ∙ look.stays.key) refused.fails refused.place refused.refusal (omega (arith, done.opens.0, look.stays.opens)) (omega (arith, done.opens.1, look.stays.opens))
+    (payload-later read (Err e) self.inner mid.inner new.inner self.taken mid.taken new.taken look.keeps
+    (payload-refused read mid.inner new.inner mid.taken new.taken e done.keeps))
+    (done.same.0 ∙ look.stays.key) refused.fails refused.place refused.refusal (omega (arith, done.opens.0, look.stays.opens))
+    (omega (arith, done.opens.1, look.stays.opens))
     (λ told other. absurd (other (at_end told)))
-    (λ told was. done.none was.0 (end-looked self mid look.stays.held look.stays.cache look.stays.number c.in-Ok.size (size told) was.1) ∙ look.stays.opens)
+    (λ told was. done.none was.0 (end-looked self mid look.stays.held look.stays.cache look.stays.number c.in-Ok.size (size told) was.1)
+    ∙ look.stays.opens)
     (λ told well memory quiet.
     let found = refused.cause told well memory quiet in
-    inr (found.0, record { end = at_end told; bad = ends_badly suite.seal_of suite.opened g.met.S.Suite.cipher self.key self.key_bytes payload.bytes (are told) found.1 }))
+    inr (
+      found.0,
+      record {
+        end = at_end told;
+        bad = ends_badly suite.seal_of suite.opened g.met.S.Suite.cipher self.key self.key_bytes payload.bytes (are told) found.1;
+      },
+    ))
     (λ told whole well memory quiet.
-    last-opens suite.opened self.key (shorter suite.seal_of suite.opened g.met.S.Suite.cipher self.key self.key_bytes) payload (are told) well (refused.cause told whole memory quiet).1)
+    last-opens suite.opened self.key (shorter suite.seal_of suite.opened g.met.S.Suite.cipher self.key self.key_bytes) payload (are told) well
+    (refused.cause told whole memory quiet).1)
     (λ told. elim done.says [
       | inl bad ↦
           let was = no_last told (bad (told-later read self.inner mid.inner look.keeps.inner.same told)) in
-          inl (inr (was.0, record { end = at_end told; bad = ends_badly suite.seal_of suite.opened g.met.S.Suite.cipher self.key self.key_bytes payload.bytes (are told) was.1 }))
+          inl (inr (
+            was.0,
+            record {
+              end = at_end told;
+              bad = ends_badly suite.seal_of suite.opened g.met.S.Suite.cipher self.key self.key_bytes payload.bytes (are told) was.1;
+            },
+          ))
       | inr other ↦ inr other
     ])
 
@@ -191,16 +225,34 @@ pub returns-in-Ok-enter : goal.returns-in-Ok-enter
 returns-in-Ok-enter g c =
     let look = c.in-Ok.ensures in
     let done = c.in-Ok-enter.ensures in
-    seek-entered g.R.Seek.seek_refuses c.args.self.now c.look.new.self c.enter.new.self c.args.to g.met.S.Suite.cipher g.met.R.Read.are_bytes c.in-Ok.size (λ told. (look.found told).2) c.requires
-    (record { number = look.stays.number; at = look.stays.at; held = look.stays.held; cache = look.stays.cache; key = look.stays.key; opens = look.stays.opens }) look.keeps done.keeps c.in-Ok-find.target c.in-Ok-find.len c.in-Ok-find.ensures.found (λ same. c.if-target-len.false same) done.same.0 done.same.2 done.enters
+    seek-entered g.R.Seek.seek_refuses c.args.self.now c.look.new.self c.enter.new.self c.args.to g.met.S.Suite.cipher g.met.R.Read.are_bytes
+    c.in-Ok.size (λ told. (look.found told).2) c.requires
+    (record {
+      number = look.stays.number;
+      at = look.stays.at;
+      held = look.stays.held;
+      cache = look.stays.cache;
+      key = look.stays.key;
+      opens = look.stays.opens;
+    }) look.keeps done.keeps c.in-Ok-find.target c.in-Ok-find.len c.in-Ok-find.ensures.found
+    (λ same. c.if-target-len.false same) done.same.0 done.same.2 done.enters
 
 -- the target is the end
 pub returns-in-Ok-enter_end : goal.returns-in-Ok-enter_end
 returns-in-Ok-enter_end g c =
     let look = c.in-Ok.ensures in
     let done = c.in-Ok-enter_end.ensures in
-    seek-ended g.R.Seek.seek_refuses c.args.self.now c.look.new.self c.enter_end.new.self c.args.to g.met.S.Suite.cipher g.met.R.Read.are_bytes c.in-Ok.size (λ told. (look.found told).2) c.requires
-    (record { number = look.stays.number; at = look.stays.at; held = look.stays.held; cache = look.stays.cache; key = look.stays.key; opens = look.stays.opens }) look.keeps done.keeps c.in-Ok-find.target c.in-Ok-find.len c.in-Ok-find.ensures.found c.if-target-len.true done.same.0 done.opens.0 done.opens.1 done.none done.enters done.chunks
+    seek-ended g.R.Seek.seek_refuses c.args.self.now c.look.new.self c.enter_end.new.self c.args.to g.met.S.Suite.cipher g.met.R.Read.are_bytes
+    c.in-Ok.size (λ told. (look.found told).2) c.requires
+    (record {
+      number = look.stays.number;
+      at = look.stays.at;
+      held = look.stays.held;
+      cache = look.stays.cache;
+      key = look.stays.key;
+      opens = look.stays.opens;
+    }) look.keeps done.keeps c.in-Ok-find.target c.in-Ok-find.len c.in-Ok-find.ensures.found c.if-target-len.true
+    done.same.0 done.opens.0 done.opens.1 done.none done.enters done.chunks
 
 -- the target is outside, and the inner reader was put back
 pub returns-in-Ok-stand : goal.returns-in-Ok-stand
@@ -209,8 +261,24 @@ returns-in-Ok-stand g c =
     let look = c.in-Ok.ensures in
     let mid = c.look.new.self in
     let done = c.in-Ok-stand.ensures in
-    seek-missed g.R.Seek.seek_refuses self mid _ c.args.to g.met.S.Suite.cipher g.met.R.Read.are_bytes c.in-Ok.size (λ told. (look.found told).2) c.requires
-    (record { number = look.stays.number; at = look.stays.at; held = look.stays.held; cache = look.stays.cache; key = look.stays.key; opens = look.stays.opens }) look.keeps done.keeps c.in-Err-find.e c.in-Err-find.ensures.refused (c.if-not-is_outside.ensures.yes refl) (record { number = done.stays.number; at = done.stays.at; held = done.stays.held; cache = done.stays.cache; key = done.stays.key; opens = done.stays.opens }) refl g.met.R.Read.stands done.stands.rest
+    seek-missed g.R.Seek.seek_refuses self mid _ c.args.to g.met.S.Suite.cipher g.met.R.Read.are_bytes c.in-Ok.size
+    (λ told. (look.found told).2) c.requires
+    (record {
+      number = look.stays.number;
+      at = look.stays.at;
+      held = look.stays.held;
+      cache = look.stays.cache;
+      key = look.stays.key;
+      opens = look.stays.opens;
+    }) look.keeps done.keeps c.in-Err-find.e c.in-Err-find.ensures.refused (c.if-not-is_outside.ensures.yes refl)
+    (record {
+      number = done.stays.number;
+      at = done.stays.at;
+      held = done.stays.held;
+      cache = done.stays.cache;
+      key = done.stays.key;
+      opens = done.stays.opens;
+    }) refl g.met.R.Read.stands done.stands.rest
     (λ told.
     let later = told-later g.R.Read self.inner mid.inner look.keeps.inner.same told in
     let after = told-later g.R.Read mid.inner c.stand.new.self.inner done.keeps.inner.same later in

@@ -12,7 +12,8 @@ pub invariant_of-self : goal.invariant_of-self
 invariant_of-self g c =
     let self = c.args.self.now in
     let seek = c.in-Err.ensures.seeks in
-    reader-asked self c.seek_retrying.new.reader self.taken self.sealed.items self.failed c.requires.failed self.room seek.same_tells seek.same_steady seek.same_content
+    reader-asked self c.seek_retrying.new.reader self.taken self.sealed.items self.failed c.requires.failed self.room seek.same_tells
+    seek.same_steady seek.same_content
     (λ told. omega (arith, seek.stays (and-left _ _ told), (self.sound told).fits))
 
 pub invariant_of-self-in-Ok : goal.invariant_of-self-in-Ok
@@ -21,7 +22,8 @@ invariant_of-self-in-Ok g c =
     let read = g.R.Read in
     let seek = c.in-Ok.ensures.seeks in
     let after = c.seek_retrying.new.reader in
-    let taken : (told : IsTrue (read.tells self.inner && read.steady self.inner)) → c.args.place + (read.place self.inner - self.taken) ≡ read.place after = λ told.
+    let taken : (told : IsTrue (read.tells self.inner && read.steady self.inner))
+    → c.args.place + (read.place self.inner - self.taken) ≡ read.place after = λ told.
     let t = and-left (read.tells self.inner) (read.steady self.inner) told in
     let s = and-right (read.tells self.inner) (read.steady self.inner) told in
     let target = start-at _ (read.place self.inner) (length (read.content self.inner).bytes) c.in-Ok.field-0 (seek.moves t s).0 in
@@ -36,7 +38,8 @@ invariant_of-self-in-Ok g c =
       g.met.R.Read.short self.inner t,
       g.met.R.Read.place_fits self.inner t,
     ) in
-    reader-asked self after c.args.place self.sealed.items self.failed c.requires.failed self.room seek.same_tells seek.same_steady seek.same_content taken
+    reader-asked self after c.args.place self.sealed.items self.failed c.requires.failed self.room seek.same_tells seek.same_steady
+    seek.same_content taken
 
 pub returns-in-Err-clause-refused : goal.returns-in-Err-clause-refused
 returns-in-Err-clause-refused g c = record {
@@ -86,9 +89,11 @@ returns-in-Ok-clause-stands g c =
             g.met.R.Read.short self.inner t,
             g.met.R.Read.place_fits self.inner t,
           ) in
-          (seek.moves t s).1 ∙ ap (λ n. from_place n content) at ∙ payload-place content c.args.start (read.place self.inner) self.taken (c.requires.start told) c.args.place;
+          (seek.moves t s).1 ∙ ap (λ n. from_place n content) at ∙ payload-place content c.args.start (read.place self.inner) self.taken
+          (c.requires.start told) c.args.place;
     }
 
 pub returns-in-Err-clause-says : goal.returns-in-Err-clause-says
 returns-in-Err-clause-says g c =
-    sought-named g.R.Read g.R.Seek.seek_refuses c.args.self.now.inner c.seek_retrying.new.reader c.in-Err.e c.lost.result c.lost.ensures c.in-Err.ensures.seeks
+    sought-named g.R.Read g.R.Seek.seek_refuses c.args.self.now.inner c.seek_retrying.new.reader c.in-Err.e c.lost.result c.lost.ensures
+    c.in-Err.ensures.seeks

@@ -12,9 +12,11 @@ invariant_of-self g c =
     let read = g.R.Read in
     let after = c.fill_front-answer.new.reader in
     let filled = c.fill_front-answer.ensures in
-    let size : length c.fill_front-answer.new.room ≡ 65552 = omega (arith, c.fill_front-answer.auto.room, c.deref_mut.ensures.len, self.room, self.sealed.ok.0) in
+    let size : length c.fill_front-answer.new.room ≡ 65552 =
+    omega (arith, c.fill_front-answer.auto.room, c.deref_mut.ensures.len, self.room, self.sealed.ok.0) in
     let room = refilled self.sealed.items c.fill_front-answer.new.room self.sealed.len self.sealed.ok.0 (omega (arith, size, self.room)) in
-    reader-asked self after c.saturating_add-self.result _ true refl (ap length room ∙ size) filled.keeps.same.tells filled.keeps.same.steady filled.keeps.same.content
+    reader-asked self after c.saturating_add-self.result _ true refl
+    (ap length room ∙ size) filled.keeps.same.tells filled.keeps.same.steady filled.keeps.same.content
     (λ told.
     let t = and-left (read.tells self.inner) (read.steady self.inner) told in
     let fits = g.met.R.Read.place_fits after (filled.keeps.same.tells ∙ t) in
@@ -28,8 +30,10 @@ returns-in-Err-clause-keeps g c =
     let filled = c.in-Err.ensures in
     let path = λ (told : IsTrue (read.tells self.inner && read.steady self.inner)).
     let t = and-left (read.tells self.inner) (read.steady self.inner) told in
-    payload-read (read.content self.inner) (read.content after) (read.place self.inner) (read.place after) self.taken c.saturating_add-self.result c.fill_front-answer.new.filled
-    (filled.keeps.same.content t) (filled.moves t) (g.met.R.Read.place_fits after (filled.keeps.same.tells ∙ t)) c.saturating_add-self.ensures (self.sound told).fits in
+    payload-read (read.content self.inner) (read.content after) (read.place self.inner)
+    (read.place after) self.taken c.saturating_add-self.result c.fill_front-answer.new.filled
+    (filled.keeps.same.content t) (filled.moves t) (g.met.R.Read.place_fits after (filled.keeps.same.tells ∙ t)) c.saturating_add-self.ensures
+    (self.sound told).fits in
     payload-asked read self.inner after self.taken c.saturating_add-self.result c.in-Err.e (λ told. (path told).1) filled.keeps
 
 pub returns-in-Ok : goal.returns-in-Ok
@@ -38,12 +42,15 @@ returns-in-Ok g c =
     let read = g.R.Read in
     let after = c.fill_front-answer.new.reader in
     let filled = c.in-Ok.ensures in
-    let size : length c.fill_front-answer.new.room ≡ 65552 = omega (arith, c.fill_front-answer.auto.room, c.deref_mut.ensures.len, self.room, self.sealed.ok.0) in
+    let size : length c.fill_front-answer.new.room ≡ 65552 =
+    omega (arith, c.fill_front-answer.auto.room, c.deref_mut.ensures.len, self.room, self.sealed.ok.0) in
     let room = refilled self.sealed.items c.fill_front-answer.new.room self.sealed.len self.sealed.ok.0 (omega (arith, size, self.room)) in
     let path = λ (told : IsTrue (read.tells self.inner && read.steady self.inner)).
     let t = and-left (read.tells self.inner) (read.steady self.inner) told in
-    payload-read (read.content self.inner) (read.content after) (read.place self.inner) (read.place after) self.taken c.saturating_add-self.result c.fill_front-answer.new.filled
-    (filled.keeps.same.content t) (filled.moves t) (g.met.R.Read.place_fits after (filled.keeps.same.tells ∙ t)) c.saturating_add-self.ensures (self.sound told).fits in
+    payload-read (read.content self.inner) (read.content after) (read.place self.inner)
+    (read.place after) self.taken c.saturating_add-self.result c.fill_front-answer.new.filled
+    (filled.keeps.same.content t) (filled.moves t) (g.met.R.Read.place_fits after (filled.keeps.same.tells ∙ t)) c.saturating_add-self.ensures
+    (self.sound told).fits in
     record {
       stays = search;
       failed = search;

@@ -36,7 +36,8 @@ returns-clause-made g c =
       success = λ told plain is.
           let t = and-left _ _ told in
           payload-delivered suite.seal_of suite.opened g.met.S.Suite.cipher c.args.key c.known_array.ensures (read.rest inner) plain
-          (rest-bytes (read.content inner) (read.rest inner) (read.place inner) (g.met.R.Read.stands inner t (and-right _ _ told)) (g.met.R.Read.are_bytes inner t))
+          (rest-bytes (read.content inner) (read.rest inner) (read.place inner) (g.met.R.Read.stands inner t (and-right _ _ told))
+          (g.met.R.Read.are_bytes inner t))
           (sym rest ∙ is);
       honest = λ plain bytes most apart is.
           rest ∙ ap (payload_delivers suite.opened c.args.key 0) is

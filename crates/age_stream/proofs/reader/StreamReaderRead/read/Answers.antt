@@ -25,15 +25,20 @@ returns-clause-gives g c =
           let bytes = g.met.R.Read.are_bytes self.inner (and-left _ _ told) in
           let short = shorter suite.seal_of suite.opened law self.key self.key_bytes in
           let payload = payload_at place self.taken content in
-          let rest = rest_of suite.opened self.key self.failed self.held self.at self.cache.chunk.items self.cache.last self.number (read.rest self.inner) in
+          let rest = rest_of suite.opened self.key self.failed self.held self.at self.cache.piece.items self.cache.last self.number
+          (read.rest self.inner) in
           let stands = λ (well : (payload_delivers suite.opened self.key 0 payload).ends_well ≡ true).
-          stream_stands suite.opened self.key short self.failed self.held self.at self.cache.chunk.items self.cache.last self.sought self.number self.taken place content (read.rest self.inner)
-          bytes self.offset (λ held. (self.chunk held).in_chunk) (self.sound told) (g.met.R.Read.stands self.inner (and-left _ _ told) (and-right _ _ told)) well in
+          stream_stands suite.opened self.key short self.failed self.held self.at self.cache.piece.items self.cache.last self.sought self.number
+          self.taken place content (read.rest self.inner)
+          bytes self.offset (λ held. (self.chunk held).in_chunk) (self.sound told)
+          (g.met.R.Read.stands self.inner (and-left _ _ told) (and-right _ _ told)) well in
           IfOk-weaker c.read_on.result _ _
-          (λ n clean none some. end-found suite.seal_of suite.opened law self.key self.key_bytes payload (payload_delivers suite.opened self.key 0 payload)
+          (λ n clean none some. end-found suite.seal_of suite.opened law self.key self.key_bytes payload
+          (payload_delivers suite.opened self.key 0 payload)
           rest _
           (All-drop (λ x. x < 2 ^ 8) (place - self.taken) content.bytes bytes)
-          (delivered-bytes suite.opened self.key short (opens_bytes suite.seal_of suite.opened law self.key self.key_bytes) 0 (place - self.taken) content bytes) refl
+          (delivered-bytes suite.opened self.key short (opens_bytes suite.seal_of suite.opened law self.key self.key_bytes) 0
+          (place - self.taken) content bytes) refl
           (λ well. (stands well).within)
           (front-either self.sought (payload_delivers suite.opened self.key 0 payload) rest (65536 * self.number + self.at)
           (λ is. (self.sound told).front is c.if-self.false) (λ is. (stands (unsought is)).reaches)) (clean none some))

@@ -21,7 +21,8 @@ all_taken : {S W : Type 0} (seal_of : Seal) (appended : W → List ℕ → W →
 all_taken seal_of appended key plain first start writer made took =
     let sending = took.sending in
     let text : start.held.items ++ plain ≡ plain = ap (λ l. l ++ plain) made.none_held in
-    let held : length writer.held.items ≡ length (drop (65536 * sending.count) plain) = ap length (sending.held ∙ ap (drop (65536 * sending.count)) text) in
+    let held : length writer.held.items ≡ length (drop (65536 * sending.count) plain) =
+    ap length (sending.held ∙ ap (drop (65536 * sending.count)) text) in
     let sealed : writer.sealed ≡ 0 + sending.count = sending.sealed ∙ ap (λ n. n + sending.count) made.none_sealed in
     let fits : 65536 * sending.count ≤ length plain = rw text at sending.fits in
     counted writer.sealed sending.count (length plain) (length writer.held.items) sealed fits (held ∙ length-drop (65536 * sending.count) plain)

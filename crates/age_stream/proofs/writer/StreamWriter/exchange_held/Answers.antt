@@ -20,5 +20,6 @@ pub returns-in_err-write_chunk-clause-front : goal.returns-in_err-write_chunk-cl
 returns-in_err-write_chunk-clause-front g c = λ told.
     let writer = c.args.self.now in
     let held : length writer.held.items ≡ 65536 = omega (arith, c.requires.full.0, writer.held.ok.0) in
-    OnErr-of _ (sends-held g.S.Suite.seal_of g.W.Write.appended writer c.args.piece.now.items c.write_chunk.new.inner held (omega (arith, c.requires.full.1))
+    OnErr-of _ (sends-held g.S.Suite.seal_of g.W.Write.appended writer c.args.piece.now.items c.write_chunk.new.inner held
+    (omega (arith, c.requires.full.1))
     (rw c.deref.ensures.value at (c.in_err-write_chunk.ensures.front told)))

@@ -27,7 +27,8 @@ loop-done-preserved g c =
       keeps = keeps-later w.tells w.faults (RefusesChunk w.refuses) c.args.self.now.inner c.loop-done.self.inner c.take_some.new.self.inner
           tt (Ok tt) before.keeps (keeps-well w.tells w.faults (RefusesChunk w.refuses) _ _ _ tt now.inner);
       sent = λ told. rw (take-add c.loop-done.done c.in_ok-done.field-0 bytes)
-          (Sent-both g.S.Suite.seal_of g.W.Write.appended g.met.W.Write.joins _ _ _ _ _ (before.sent told) (rw (take_rest bytes c.loop-done.done) at (now.sent (before.keeps.same_tells ∙ told))));
+          (Sent-both g.S.Suite.seal_of g.W.Write.appended g.met.W.Write.joins _ _ _ _ _ (before.sent told)
+          (rw (take_rest bytes c.loop-done.done) at (now.sent (before.keeps.same_tells ∙ told))));
     }
 
 pub returns-clause-took : goal.returns-clause-took
@@ -54,6 +55,8 @@ returns-in_err-done-clause-front g c = λ told.
     let done = c.loop-done.done in
     let left : 0 < length (drop done bytes) = omega (arith, length-drop done bytes, c.loop-done-test.true) in
     let sends : SendsFront g.S.Suite.seal_of g.W.Write.appended c.args.self.now bytes c.take_some.new.self.inner =
-    rw (take-append-drop done bytes) at (sends-on g.S.Suite.seal_of g.W.Write.appended g.met.W.Write.joins c.args.self.now c.loop-done.self c.take_some.new.self.inner
-    (take done bytes) (drop done bytes) (before.sent told) left (rw (take_rest bytes done) at (c.in_err-done.ensures.front (before.keeps.same_tells ∙ told)))) in
+    rw (take-append-drop done bytes) at (sends-on g.S.Suite.seal_of g.W.Write.appended g.met.W.Write.joins c.args.self.now c.loop-done.self
+    c.take_some.new.self.inner
+    (take done bytes) (drop done bytes) (before.sent told) left
+    (rw (take_rest bytes done) at (c.in_err-done.ensures.front (before.keeps.same_tells ∙ told)))) in
     search rules

@@ -11,13 +11,15 @@ use Rattle.age_stream.proofs.writer.StreamWriter.take_some.Goals as goal
 pub returns-then-count-bytes-clause-sent : goal.returns-then-count-bytes-clause-sent
 returns-then-count-bytes-clause-sent g c = λ told. let w = g.W.Write in
     let roomy = c.in_ok-make_room.ensures in
-    Sent-both g.S.Suite.seal_of w.appended g.met.W.Write.joins c.args.self.now c.make_room.new.self c.send_piece.new.self [] (take c.min-count.result c.args.bytes.now)
+    Sent-both g.S.Suite.seal_of w.appended g.met.W.Write.joins c.args.self.now c.make_room.new.self c.send_piece.new.self []
+    (take c.min-count.result c.args.bytes.now)
     (roomy.sent told) (c.in_ok-send_piece.ensures.sent (roomy.inner.same_tells ∙ told))
 
 pub returns-clause-sent : goal.returns-clause-sent
 returns-clause-sent g c = λ told. let w = g.W.Write in
     let roomy = c.in_ok-make_room.ensures in
-    Sent-both g.S.Suite.seal_of w.appended g.met.W.Write.joins c.args.self.now c.make_room.new.self c.hold.new.self [] (take c.min-count.result c.args.bytes.now)
+    Sent-both g.S.Suite.seal_of w.appended g.met.W.Write.joins c.args.self.now c.make_room.new.self c.hold.new.self []
+    (take c.min-count.result c.args.bytes.now)
     (roomy.sent told) (c.in_ok-hold.ensures.sent (roomy.inner.same_tells ∙ told))
 
 pub returns-in_err-send_piece-clause-inner : goal.returns-in_err-send_piece-clause-inner
@@ -41,7 +43,8 @@ returns-clause-inner g c = let w = g.W.Write in
 pub returns-in_err-make_room-clause-front : goal.returns-in_err-make_room-clause-front
 returns-in_err-make_room-clause-front g c = λ told.
     let out = c.in_err-make_room.ensures.front told in
-    let sends = λ (full : held_len c.args.self.now ≡ 65536). sends-held g.S.Suite.seal_of g.W.Write.appended c.args.self.now c.args.bytes.now c.make_room.new.self.inner
+    let sends = λ (full : held_len c.args.self.now ≡ 65536). sends-held g.S.Suite.seal_of g.W.Write.appended c.args.self.now c.args.bytes.now
+    c.make_room.new.self.inner
     (omega (arith, full, c.args.self.now.held.ok.0)) c.requires.some in
     search rules
 
@@ -54,7 +57,8 @@ returns-in_err-send_piece-clause-front g c = λ told. let w = g.W.Write in
     let count : c.min-count.result ≡ 65536 = search rules in
     let more : 65536 < length bytes = search rules in
     let empty : between.held.items ≡ [] = nil_from_length between.held.items (omega (arith, between.held.ok.0, none)) in
-    let sends = sends-on g.S.Suite.seal_of w.appended g.met.W.Write.joins c.args.self.now between c.send_piece.new.self.inner [] bytes (roomy.sent told) c.requires.some
+    let sends = sends-on g.S.Suite.seal_of w.appended g.met.W.Write.joins c.args.self.now between c.send_piece.new.self.inner [] bytes
+    (roomy.sent told) c.requires.some
     (sends-piece g.S.Suite.seal_of w.appended between bytes c.send_piece.new.self.inner empty more
     (rw count at (c.in_err-send_piece.ensures.front (roomy.inner.same_tells ∙ told)))) in
     search rules

@@ -51,7 +51,12 @@ returns-in-Ok-clause-writes g c =
       narrows = Refused-narrows g.W.Write.refuses c.args.self.now c.take_all.new.self (length bytes) c.if-self.false
           (took.failed ∙ c.if-self.false) took.total took.inner.narrows;
       interrupted = tt;
-      takes_front = λ told. inr (inr (c.if-self.false, took.failed ∙ c.if-self.false, rw (take_all (length bytes) bytes (omega arith)) (took.took told)));
+      takes_front = λ told. inr (inr (
+        c.if-self.false,
+        took.failed
+            ∙ c.if-self.false,
+        rw (take_all (length bytes) bytes (omega arith)) (took.took told),
+      ));
       takes_part = λ told. tt;
       takes_nothing = λ told. tt;
     }
@@ -81,12 +86,15 @@ returns-in-Err-clause-writes g c =
     }
 
 pub returns-in-Ok-clause-sent : goal.returns-in-Ok-clause-sent
-returns-in-Ok-clause-sent g c = λ told. sends-taken g.S.Suite.seal_of g.W.Write.appended c.args.self.now c.take_all.new.self c.args.bytes.now (c.in-Ok.ensures.took told)
+returns-in-Ok-clause-sent g c = λ told. sends-taken g.S.Suite.seal_of g.W.Write.appended c.args.self.now c.take_all.new.self c.args.bytes.now
+    (c.in-Ok.ensures.took told)
 
 -- too long
 pub returns-then-bytes-taken-clause-sent : goal.returns-then-bytes-taken-clause-sent
-returns-then-bytes-taken-clause-sent g c = λ told. sends-none g.S.Suite.seal_of g.W.Write.appended g.met.W.Write.appends_nothing c.args.self.now c.args.bytes.now
+returns-then-bytes-taken-clause-sent g c =
+    λ told. sends-none g.S.Suite.seal_of g.W.Write.appended g.met.W.Write.appends_nothing c.args.self.now c.args.bytes.now
 
 -- it had failed
 pub returns-then-self-clause-sent : goal.returns-then-self-clause-sent
-returns-then-self-clause-sent g c = λ told. sends-none g.S.Suite.seal_of g.W.Write.appended g.met.W.Write.appends_nothing c.args.self.now c.args.bytes.now
+returns-then-self-clause-sent g c = λ told. sends-none g.S.Suite.seal_of g.W.Write.appended g.met.W.Write.appends_nothing c.args.self.now
+    c.args.bytes.now

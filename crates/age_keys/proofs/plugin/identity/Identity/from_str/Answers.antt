@@ -9,10 +9,12 @@ returns-in_default-name_in c =
 
 pub returns-in_default-to_ascii_lowercase : goal.returns-in_default-to_ascii_lowercase
 returns-in_default-to_ascii_lowercase c =
-    identity_wants c.args.text.now c.in-Some.prefix.now c.in-Some-between.before.now c.without_hyphens.result.now c.in-Some.ensures.0 c.in-Some.ensures.1
+    identity_wants c.args.text.now c.in-Some.prefix.now c.in-Some-between.before.now c.without_hyphens.result.now c.in-Some.ensures.0
+    c.in-Some.ensures.1
     (sym c.as_bytes.ensures.value ∙ c.in-Some-between.ensures) c.without_hyphens.ensures c.in-Some-name_in.ensures.1
 
 pub returns-in-Err : goal.returns-in-Err
 returns-in-Err c =
-    identity_wants c.args.text.now c.in-Some.prefix.now c.in-Some-between.before.now c.without_hyphens.result.now c.in-Some.ensures.0 c.in-Some.ensures.1
+    identity_wants c.args.text.now c.in-Some.prefix.now c.in-Some-between.before.now c.without_hyphens.result.now c.in-Some.ensures.0
+    c.in-Some.ensures.1
     (sym c.as_bytes.ensures.value ∙ c.in-Some-between.ensures) c.without_hyphens.ensures c.in-Some-name_in.ensures.1
