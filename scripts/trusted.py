@@ -39,7 +39,7 @@ READ = [f"ghost {name}" for name in "tells steady content place rest faults refu
 WRITE = [f"ghost {name}" for name in "tells faults refuses appended".split()]
 TRAITS = [
     ("A reader", "age_io/src/traits.rt", "pub trait Read", None),
-    ("One that seeks", "age_io/src/seeking.rt", "pub trait Seek", None),
+    ("One that seeks (`Failure` is `Error`, and `Target` is `SeekFrom`)", "age_io/src/seeking.rt", "pub trait Seek", None),
     ("A writer", "age_io/src/traits.rt", "pub trait Write", None),
     ("A slice as a reader", "age_io/src/memory.rt", "impl<'a> Read for Bytes<'a>", READ),
     ("A list as a writer", "age_io/src/memory.rt", "impl Write for Vec<u8>", WRITE),
@@ -111,11 +111,13 @@ PARTS = [
 INTRODUCTION = """# What a reader trusts
 
 A proof shows that the code does what its clauses say. Whether the clauses say what is meant, a reader has to judge. For that the reader needs the
-clauses, the definitions that they cite, those that these cite, and so on. This page quotes all of them for the three claims of README, and no other,
-with their comments, each before the first that cites it. The clauses stand at the end of each part. What can't be quoted stands at the end of the page.
+clauses, the definitions that they cite, those that these cite, and so on. This page quotes all that the three claims of README need, and nothing else,
+with their comments; each definition stands above those that cite it. The clauses stand at the end of each part. What can't be quoted is named at the
+end of the page.
 
 - The format stands in [age_v1](../crates/age_v1/specs/Lib.antt), a crate of definitions without functions: a file for each section of the standard,
-  which `Lib.antt` lists in the standard's order (`Stanza` to `Scrypt`), and `Claims`, what a success of the calls says.
+  which `Lib.antt` lists in the standard's order (`Stanza` to `Scrypt`). Between them `Recipients` to `RecipientType` say what recipients and
+  identities do; at the end `Claims` has what a success of the calls says.
 - HMAC, HKDF and base64 stand in `hmac_sha256` and `age_base64`.
 - Errors stand in `age_error`, readers and writers in `age_io`, random bytes in `age_suite`.
 
@@ -149,10 +151,12 @@ after `standard:`, in our words.
 | `take n xs`, `drop n xs`, `replicate n x`, `flat_map f xs` | the first n items; all after them; n times x; the lists `f x` of each x, joined |
 | `sha256 xs`; `encode symbols 61 padded xs` | SHA-256; base64 in these symbols, 61 for `=`, with padding if `padded` is true |
 | `bytes_high_first n i`, `join_with_byte 32 xs` | the number i in n bytes, big-endian; the lists, joined with one byte 32 between two |
-| `All P xs`, `AllByRecursion P xs`, `AllZip P xs ys` | P of each item; of each pair at one place, where both lists have as many |
+| `All P xs`, `AllByRecursion P xs` | P of each item |
+| `AllZip P xs ys` | both lists have as many items, and P holds of each pair at one place |
+| `IsTrue b`; `nat_le`, `nat_lt`, `nat_eq`, `bytes_eq`, `list_all`, `list_any` | b is true; tests that are true or false: at most, below, equal, equal bytes, each item passes, some item does |
 | `Some x`, `None`; `Ok x`, `Err e` | a value or none; a value or a refusal |
 | `IfOk r P`, `OnOk r P` | if r is `Ok x`, then `P x`; if r is an `Ok`, then `P`. So `IfErr`, `OnErr` of `Err e` |
-| `MatchResult r P Q` | P of x where r is `Ok x`, Q of e where it is `Err e` |
+| `MatchResult r P Q`, `MatchOption o P Q` | P of x where r is `Ok x`, Q of e where it is `Err e`; P where o is `None`, Q of x where it is `Some x` |
 | `x.old`, `x.new`; `x.now`; `result` | in a clause: what a `&mut` points to before and after the call; what a `&` points to; what the call answers |
 | `S.seal_of`, `⟦<S as Suite>⟧` | the member `seal_of` of a type, and all members that it has by this trait |
 | `draw.old`, `grease`, `self` | if the type has a `ghost view` (quoted with the clauses), that view. Grease is a stanza that means nothing |
@@ -160,16 +164,19 @@ after `standard:`, in our words.
 
 # What the claims say, in words: before all of them, and before the one of this caption.
 IN_WORDS = {
-    "": "A reader's `rest` is what it can still deliver, and `ends_well` says that a clean end follows. `tells`: its members say what the bytes are. "
-        "`steady`: a place has the same bytes however one came there. `faults`: how often the device failed. A writer's `appended`: which bytes went out "
-        "between two of its states. Part 2 has them all.",
+    "": "A reader's `rest` is what it can still deliver, and `ends_well` says that a clean end follows. A writer's "
+        "`appended`: which bytes went out between two of its states. `tells`: whether these say anything of the bytes; those of a real file or pipe don't, "
+        "and so the claims say nothing of it. `steady`: a place has the same bytes however one came there. `faults`: how often the device failed. Part 2 "
+        "has them all.",
     "Claim 1, from a reader to a writer":
         "If the reader and the writer tell their bytes, `Ok` says: the input ended well, and exactly the file of all that was left of it was appended, bare "
         "or in armor. Its file key, stanzas and nonce are what recipients, grease and random bytes come to (`Prepares`).",
     "Claim 2":
-        "It is of a reader that tells its bytes, is steady and ends well, of a type that never fails, as a slice is. If its bytes carry a file for the "
-        "identities (`IsFileFor`), `Ok` says: a cursor on the plaintext would answer the same. Where one answer is want of memory, nothing is said of any. "
-        "`Err` is want of memory. Of damaged files it says nothing.",
+        "It is of a reader that tells its bytes, is steady and ends well, of a type that never fails, as a slice is. Its bytes carry a file for the "
+        "identities (`IsFileFor`): to the file's stanzas they can answer nothing but its file key or want of memory, the plaintext has at most 2^60 bytes, and "
+        "a full last chunk doesn't open as a middle one too. Then `Ok` says: a cursor on the plaintext would answer the same, where a read reads until it has "
+        "what was asked, or to the end. Where one answer is want of memory, nothing is said of any. `Err` is want of memory. Of damaged files the claim says "
+        "nothing.",
     "Claim 3, from a reader to a writer":
         "If both tell their bytes and the reader is steady, `Ok` says: the input ended well, all that was left of it carried a file, and exactly that file's "
         "plaintext was appended. Its file key is the answer of the first identity that answered. The input may be any bytes.",

@@ -40,14 +40,14 @@ AreEndedLines (l ∷ ls) text = (first : List ℕ) × (rest : List ℕ) × (text
 abbrev pub IsSpace : ℕ → Type 0
 IsSpace b = (b ≡ 32) ⊎ (b ≡ 9) ⊎ (b ≡ 10) ⊎ (b ≡ 12) ⊎ (b ≡ 13)
 
--- The end marker and no more; or it with LF or CRLF, and then any white space. The armor that is written ends with the marker and LF.
--- standard: the strict form of RFC 7468 has one line end here, LF, CRLF or CR, and nothing after it. A CR alone is taken nowhere here, and nothing is
--- taken before the begin marker.
+-- The end marker and no more; or it with LF or CRLF, and then any white space. A CR alone ends no line here, though it may stand in that white space.
+-- Nothing is taken before the begin marker. The armor that is written ends with the marker and LF.
+-- standard: the strict form of RFC 7468 has one line end here, LF, CRLF or CR, and nothing after it
 abbrev pub IsArmorEnd : List ℕ → Type 0
 IsArmorEnd text = (text ≡ end_marker)
     ⊎ ((ended : List ℕ) × (space : List ℕ) × (text ≡ ended ++ space) × IsEndedLine end_marker ended × AllByRecursion IsSpace space)
 
--- the armor of the bytes, with LF or CRLF after each line
+-- the lines of the armor of the bytes before the end marker, each with LF or CRLF, and then an end
 pub record CarriesArmored (text bytes : List ℕ) : Type 0 where
   pub front : List ℕ
   pub end : List ℕ
@@ -55,8 +55,8 @@ pub record CarriesArmored (text bytes : List ℕ) : Type 0 where
   pub lines : AreEndedLines (begin_marker ∷ armor_lines (padded_columns bytes)) front
   pub ends : IsArmorEnd end
 
--- The bytes themselves: at least 36, and no begin marker in front. By its first 36 bytes, as
--- many as that marker and CRLF have, a reader tells the two forms apart. Every file has more.
+-- The bytes themselves: at least 36, and no begin marker in front. A reader takes 36 bytes, those
+-- of the marker and CRLF, to tell the two forms apart. Every file has more.
 pub record CarriesBinary (text bytes : List ℕ) : Type 0 where
   pub size : 36 ≤ length text
   pub no_marker : (rest : List ℕ) → text ≢ begin_marker ++ rest

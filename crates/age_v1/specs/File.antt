@@ -11,8 +11,8 @@ use Rattle.age_v1.specs.Payload.{Seal, payload, payload_key}
 unfoldable pub file_front : List ℕ → List StanzaValue → List ℕ → List ℕ
 file_front file_key stanzas nonce = header_text stanzas (header_mac file_key (covered_text stanzas)) ++ nonce
 
--- The text of the file that has this file key, these stanzas, this payload nonce and this plaintext: there is one. That the stanzas wrap the file key
--- isn't said here, but by `Prepares` of a file that is written, and by `CarriesFile` of one that is read.
+-- The text of the file that has this file key, these stanzas, this payload nonce and this plaintext. There is exactly one such text. That the stanzas
+-- wrap the file key isn't said here, but by `Prepares` of a file that is written, and by `CarriesFile` of one that is read.
 unfoldable pub file_text : Seal → List ℕ → List StanzaValue → List ℕ → List ℕ → List ℕ
 file_text seal_of file_key stanzas nonce plain =
     file_front file_key stanzas nonce ++ payload seal_of (payload_key file_key nonce) plain

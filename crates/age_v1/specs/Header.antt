@@ -24,7 +24,8 @@ covered_text stanzas = line version_line ++ (flat_map stanza_text stanzas ++ cod
 unfoldable pub header_text : List StanzaValue → List ℕ → List ℕ
 header_text stanzas mac = line version_line ++ (flat_map stanza_text stanzas ++ line (mac_line mac))
 
--- what can stand in a header
+-- what can stand in a header: one or more stanzas, and a MAC of 32 bytes
+-- standard: a header has one or more stanzas
 pub record IsHeader (stanzas : List StanzaValue) (mac : List ℕ) : Type 0 where
   pub each : AllByRecursion IsStanza stanzas
   pub some : stanzas ≢ []

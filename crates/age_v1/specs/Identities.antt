@@ -69,8 +69,8 @@ abbrev pub FirstAnswer : {I : Type 0} → (I → List StanzaValue → UnwrapAnsw
 FirstAnswer {I} unwraps identities stanzas answer =
     (after : List I) × FirstThatAnswers (λ identity own then. Unwraps unwraps identity stanzas own then) identities answer after
 
--- The bytes are a file of the plaintext, for identities that answer so: to its stanzas they answer its file key, or memory is refused. The plaintext
--- has at most 2^60 bytes, and its last chunk, where it is full, doesn't open as one in the middle too, which no law of a suite says.
+-- The bytes are a file of the plaintext, and to its stanzas the identities can answer nothing but its file key, or want of memory. The plaintext has
+-- at most 2^60 bytes, and its last chunk, where it is full, doesn't open as one in the middle too, which no law of a suite says.
 pub record IsFileFor (seal_of : Seal) (answers : List StanzaValue → UnwrapAnswer → Type 0) (plain text : List ℕ) : Type 0 where
   pub file_key : List ℕ
   pub stanzas : List StanzaValue

@@ -16,13 +16,13 @@ unfoldable pub cut : ℕ → ℕ → List ℕ → List ℕ
 cut size i xs = take size (drop (size * i) xs)
 
 -- piece i of a plaintext, of at most 65,536 bytes
--- standard: the payload is split in chunks of 64 KiB
+-- standard: the plaintext is split in parts of 64 KiB, which the standard calls chunks too
 abbrev pub piece : ℕ → List ℕ → List ℕ
 piece i plain = cut 65536 i plain
 
 -- the number of the last piece of n bytes: no empty piece follows a full last
 -- one, and a plaintext of no bytes has one piece, number 0, which is empty
--- standard: the final chunk may be shorter than 64 KiB, but isn't empty unless the whole payload is
+-- standard: the final part may be shorter than 64 KiB, but isn't empty unless the whole plaintext is
 abbrev pub last_piece : ℕ → ℕ
 last_piece n = (n - 1) / 65536
 
@@ -83,9 +83,9 @@ pub record EndsAsLast (seal_of : Seal) (key sealed : List ℕ) : Type 0 where
   pub bytes : AreBytes plain
   pub is_seal : let last = final_chunk (length sealed) in chunk last sealed ≡ seal_of key (chunk_nonce last true) plain
 
--- A premise of what is said of honest files, and no part of the standard: a full last chunk doesn't open under its nonce as a middle chunk too. A
--- reader tries a full chunk as a middle one first. Under a fresh key of ChaCha20-Poly1305 it fails by a chance of about 2^-128; who knows the key can
--- make a plaintext for which it fails. What a success of decryption says doesn't need it.
+-- A premise of what is said of honest files, and no part of the standard: where the last piece is full, its chunk isn't the seal of some bytes under
+-- the middle nonce of its number too. A reader tries a full chunk as a middle one first. Under a fresh key of ChaCha20-Poly1305 the premise fails
+-- by a chance of about 2^-128; who knows the key can make a plaintext for which it fails. What a success of decryption says doesn't need it.
 unfoldable pub LastIsNoMiddle : Seal → List ℕ → List ℕ → Type 0
 LastIsNoMiddle seal_of key plain =
     let last = last_piece (length plain) in
@@ -101,7 +101,7 @@ plain_len n =
     let rest = n - 65552 * last in
     if nat_le 16 rest && (nat_eq last 0 || nat_lt 16 rest) then Some (n - 16 * (last + 1)) else None
 
--- the payload key, one for the whole file: it is made of the file key and of the payload nonce, 16 bytes, which has nothing to do with `chunk_nonce`
+-- the payload key, one for the whole file: it is made of the file key and of the payload nonce. That has 16 bytes, and is no chunk's `chunk_nonce`.
 -- standard: "Payload": HKDF-SHA-256 of the file key, with the payload nonce as the salt and the info "payload"
 unfoldable pub payload_key : List ℕ → List ℕ → List ℕ
 payload_key file_key payload_nonce = hkdf_of payload_nonce (codes "payload") file_key
