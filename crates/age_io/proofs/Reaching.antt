@@ -1,9 +1,12 @@
 -- Reads along a content.
-use Rattle.std.proofs.Common.{◌≡◌, ℕ, ◌+◌, List, ◌++◌, length, take, drop, refl, sym, ◌∙◌, ap, arith, subst, length-append}
-use Rattle.std.proofs.lemmas.List.{drop-drop, take_at, drop_at}
+use Rattle.std.proofs.Common.{◌≡◌, ℕ, ◌+◌, ◌≤◌, List, [], ◌++◌, length, take, drop, refl, sym, ◌∙◌, ap, arith, subst, append-nil, length-append}
+use Rattle.std.proofs.lemmas.List.{drop-drop, take-append-drop, take_all, take_at, drop_at}
 use lib.Seq.{take-add}
 use Rattle.age_io.specs.Stretch.{Stretch, from_place, stretch-ext}
 use Rattle.age_io.specs.Reading.{Delivers}
+use Rattle.age_io.specs.Replies.{Replied, gave, seen}
+use Rattle.age_io.specs.declared.operations.Op.TheVariants.{Read}
+use Rattle.age_io.specs.declared.operations.Answer.{Answer}
 
 -- Reads from a start place have given these bytes, and the reader stands after them.
 pub record Reached (content : Stretch) (start : ℕ) (got : List ℕ) (place : ℕ) (rest : Stretch) : Type 0 where
@@ -41,3 +44,29 @@ Reached-more content rest new start place new_place got more r d e =
       moved = rw length-append (omega arith);
       left = rw e at.1;
     }
+
+-- all that was asked for, where that many bytes came
+pub Reached-whole : (content rest : Stretch) (start place count : ℕ) (got : List ℕ) → Reached content start got place rest → length got ≡ count →
+    got ≡ take count (drop start content.bytes)
+Reached-whole content rest start place count got r is = r.given ∙ ap (λ n. take n (drop start content.bytes)) is
+
+-- and where nothing is left
+pub Reached-end : (content rest : Stretch) (start place count : ℕ) (got : List ℕ) → Reached content start got place rest → rest.bytes ≡ [] →
+    length got ≤ count → got ≡ take count (drop start content.bytes)
+Reached-end content rest start place count got r none most =
+    let there = drop start content.bytes in
+    let behind : drop (length got) there ≡ [] =
+    drop-drop (length got) start content.bytes ∙ ap (λ n. drop n content.bytes) (sym r.moved) ∙ sym (ap (λ s. s.bytes) r.left) ∙ none in
+    let all : there ≡ got =
+    sym (take-append-drop (length got) there) ∙ ap (λ xs. take (length got) there ++ xs) behind ∙ append-nil (take (length got) there)
+    ∙ sym r.given in
+    sym (ap (take count) all ∙ take_all count got most)
+
+-- so a cursor answers, which stands there then
+pub Reached-replied : (content rest : Stretch) (start place count : ℕ) (got : List ℕ) (answer : Answer) → seen answer ≡ gave got →
+    Reached content start got place rest → got ≡ take count (drop start content.bytes) → Replied (Read count) content start place rest answer
+Reached-replied content rest start place count got answer is r whole = record {
+  told = is ∙ ap gave whole;
+  moved = r.moved ∙ ap (λ xs. start + length xs) whole;
+  left = r.left;
+}

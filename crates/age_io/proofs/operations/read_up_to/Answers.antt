@@ -1,11 +1,11 @@
-use Rattle.std.proofs.Common.{arith, ◌∙◌, ◌≡◌, ◌+◌, ◌≤◌, ◌++◌, take, length, vec_len, sym}
+use Rattle.std.proofs.Common.{arith, refl, ◌∙◌, ◌≡◌, ◌+◌, ◌≤◌, ◌++◌, [], take, length, vec_len, sym}
 use Rattle.std.proofs.lemmas.List.{append-nil}
 use Rattle.std.proofs.lemmas.Grind.{common_steps}
 use Rattle.std.proofs.lemmas.Result.{IfOk-from_err}
 use Rattle.age_io.specs.ReadingLemmas.{quiet_from}
 use Rattle.age_io.proofs.Delivering.{gives-more}
 use Rattle.age_io.proofs.Turning.{turns-more, clean-after}
-use Rattle.age_io.proofs.Reaching.{Reached-more}
+use Rattle.age_io.proofs.Reaching.{Reached-end, Reached-more, Reached-replied, Reached-whole}
 use Rattle.age_io.proofs.Keeping.{same-later, same-read}
 use Rattle.age_io.proofs.Stopping.{well-no-fault}
 use Rattle.age_io.proofs.operations.read_up_to.Goals as goal
@@ -115,4 +115,26 @@ returns-clause-came g c =
               record { room = _; buf = w.read.new.buf; some = grind (arith, common_steps, w.reads-test.true); reads = got; own = own },
             );
           }
+    ]
+
+pub returns-clause-reply : goal.returns-clause-reply
+returns-clause-reply g c = λ told well at quiet other.
+    let content = g.R.Read.content c.args.reader.now in
+    let start = g.R.Read.place c.args.reader.now in
+    let got = c.reads.got.items in
+    let before = c.reads.invariant in
+    let so_far = before.so_far told at in
+    let most : length got ≤ c.args.count = grind (arith, common_steps, before.most) in
+    elim c.reads-test.branch [
+      | else-reads-test w ↦ rw w.reader-is (Reached-replied content _ start _ c.args.count got _ refl so_far
+          (Reached-whole content _ start _ c.args.count got so_far (grind (arith, common_steps, w.reads-test.false, most))))
+      | then-reads-test+in-Ok-eq0 w ↦
+          let none : w.in-Ok-eq0.field-0 ≡ 0 = omega (arith, w.in-Ok-eq0.field-0-test) in
+          let reads = rw none at w.in-Ok-eq0.ensures.reads in
+          let told_then = before.same.tells ∙ told in
+          let reached = rw append-nil at (Reached-more content _ _ start _ _ got [] so_far (reads.bytes told_then) (reads.moves told_then)) in
+          let end = clean-after g.R.Read.tells g.R.Read.steady g.R.Read.content g.R.Read.place g.R.Read.rest g.R.Read.faults g.R.Read.refuses
+          c.reads.reader w.read.new.self w.read.new.buf reads told_then (grind (arith, common_steps, w.reads-test.true)) in
+          rw w.reader-is (Reached-replied content _ start _ c.args.count got _ refl reached
+          (Reached-end content _ start _ c.args.count got reached end.bytes most))
     ]
