@@ -1,6 +1,7 @@
 -- Why a later step of a reader refused, told of it before the steps in between.
 use Rattle.std.specs.Prelude.{Some}
 use Rattle.std.proofs.Common.{◌≡◌, ℕ, ◌+◌, ◌*◌, ◌≤◌, IsTrue, List, length, sym, ap, subst, ◌∙◌, arith, inl, inr}
+use Rattle.age_error.specs.declared.io.Error.{Error}
 use Rattle.age_error.specs.declared.io.Error.TheVariants.{Device}
 use Rattle.age_error.specs.declared.io.ErrorKind.TheVariants.{Interrupted}
 use Rattle.age_io.specs.Reading.{AddsNoReason}
@@ -13,8 +14,9 @@ use Rattle.age_stream.specs.declared.reader.StreamReader.{StreamReader}
 use Rattle.age_suite.specs.declared.suite.Suite.{Ghosts as SuiteGhosts}
 use Rattle.age_records.specs.Text.{HoldsRecords, number_text}
 use Rattle.age_records.specs.Standing.{HoldsNone}
-use Rattle.age_records.specs.Payloads.{AddsNone, HasBytes, IsCounted, RefusesCount, RefusesRange, RefusesRecord, SamePayload, SaysCount, Stands}
+use Rattle.age_records.specs.Payloads.{AddsNone, HasBytes, IfReaderRefuses, IsCounted, MayRefuse, RefusesCount, RefusesRange, RefusesRecord, SamePayload, SaysCount, Stands}
 use Rattle.age_records.specs.declared.error.RecordError.{RecordError}
+use Rattle.age_records.specs.declared.error.RecordError.TheVariants.{Damaged, Io, NoSuchRecord}
 
 module _ {S R : Type 0} {suite : SuiteGhosts S} {read : Ghosts R} where
   -- where no reason comes with a step, none does where interruptions are tried again
@@ -23,6 +25,16 @@ module _ {S R : Type 0} {suite : SuiteGhosts S} {read : Ghosts R} where
   adds-none-tried old new none e why = elim why [
     | inl plain ↦ inl (plain.0, none e plain.1)
     | inr worn ↦ inr (worn.0, none (Device Interrupted) worn.1)
+  ]
+
+  -- why one that adds no reason refuses
+  pub may-before : (seek_refuses : Error → Type 0) (old new : StreamReader S R suite read) → AddsNone old new →
+      (e : RecordError) → IfReaderRefuses (MayRefuse seek_refuses new) e → IfReaderRefuses (MayRefuse seek_refuses old) e
+  may-before seek_refuses old new none NoSuchRecord why = tt
+  may-before seek_refuses old new none Damaged why = tt
+  may-before seek_refuses old new none (Io e) why = elim why [
+    | inl want ↦ inl want
+    | inr more ↦ elim more [ inl seek ↦ inr (inl seek) | inr tried ↦ inr (inr (none e tried)) ]
   ]
 
   -- what stands in the same payload

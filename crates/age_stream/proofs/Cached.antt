@@ -20,20 +20,20 @@ use Rattle.age_stream.proofs.Last.{text-held}
 use Rattle.age_v1.proofs.TextLengths.{some-within}
 
 -- the place went on in the chunk, which is used now
-pub moved-in : (number at new_at : ℕ) (old new : Cache) → new.number ≡ old.number → new.piece ≡ old.piece → new.last ≡ old.last
-    → new.judged ≡ old.judged → at ≤ new_at →
-    new_at ≤ length old.piece.items → IsAtChunk number at old → IsAtChunk number new_at new
-moved-in number at new_at old new same_number same_chunk same_last same_judged onward within is =
-    let long : length new.piece.items ≡ length old.piece.items = ap (λ v. length v.items) same_chunk in
+pub moved-in : (number at new_at : ℕ) (old new : Cache) → new.first ≡ old.first → new.judged ≡ old.judged → at ≤ new_at →
+    new_at ≤ length old.first.piece.items → IsAtChunk number at old → IsAtChunk number new_at new
+moved-in number at new_at old new same same_judged onward within is =
+    let long : length new.first.piece.items ≡ length old.first.piece.items = ap (λ o. length o.piece.items) same in
+    let last : new.first.last ≡ old.first.last = ap (λ o. o.last) same in
     record {
       in_chunk = omega (arith, within, long);
       small = omega (arith, is.small, long);
       more = is.more;
-      full = λ middle. long ∙ is.full (sym same_last ∙ middle);
-      first = same_number ∙ is.first;
+      full = λ middle. long ∙ is.full (sym last ∙ middle);
+      first = ap (λ o. o.number) same ∙ is.first;
       unjudged = λ none.
           let was = is.unjudged (sym same_judged ∙ none) in
-          record { end = omega (arith, onward, within, was.end, was.full); is_last = same_last ∙ was.is_last; full = long ∙ was.full };
+          record { end = omega (arith, onward, within, was.end, was.full); is_last = last ∙ was.is_last; full = long ∙ was.full };
     }
 
 -- a reader that tells which chunk it used last hasn't failed
@@ -46,27 +46,29 @@ some-same a b is = cc
 
 -- the chunk that was used last is there
 pub used-there : (cache : Cache) (b : ℕ) → last_used cache ≡ Some b → HasOne cache b
-used-there cache b is = by cache.used cache.judged cache.other cache.number b is refl refl refl
+used-there cache b is = by cache.used cache.judged cache.other cache.first.number b is refl refl refl
   where
     by : (used judged : Bool) (other : Option Opened) (number b : ℕ)
         → cond used (cond judged (Some number) None) (option_map (λ it. it.number) other) ≡ Some b →
-        cache.judged ≡ judged → cache.number ≡ number → cache.other ≡ other → HasOne cache b
+        cache.judged ≡ judged → cache.first.number ≡ number → cache.other ≡ other → HasOne cache b
     by true true other number b is judged same there = inl (judged, same ∙ some-same number b is)
     by true false other number b is judged same there = cc
     by false judged None number b is first same there = cc
     by false judged (Some it) number b is first same there = inr (rw there (eq-eqb it.number b (some-same it.number b is)))
 
 -- A reader that holds a chunk, and isn't after the last one, comes to the chunk at its place next where it has that opened.
-pub comes : (held : Bool) (number at : ℕ) (cache : Cache) → held ≡ true → at ≤ length cache.piece.items → length cache.piece.items ≤ 65536 →
-    (cache.last ≡ false → length cache.piece.items ≡ 65536) → cache.number ≡ number
-    → ((held ≡ true) × (cache.last ≡ true) × (at ≡ length cache.piece.items) → ⊥) →
-    HasOne cache ((65536 * number + at) / 65536) → ((held ≡ true) × (at < length cache.piece.items)) ⊎
-    ((held ≡ true → (cache.last ≡ false) × (at ≡ length cache.piece.items)) × (has_number (cond held (number + 1) number) cache.other ≡ true))
-comes held number at cache is inside small full first apart has = elim (cases_lt at (length cache.piece.items)) [
+pub comes : (held : Bool) (number at : ℕ) (cache : Cache) → held ≡ true → at ≤ length cache.first.piece.items
+    → length cache.first.piece.items ≤ 65536 →
+    (cache.first.last ≡ false → length cache.first.piece.items ≡ 65536) → cache.first.number ≡ number
+    → ((held ≡ true) × (cache.first.last ≡ true) × (at ≡ length cache.first.piece.items) → ⊥) →
+    HasOne cache ((65536 * number + at) / 65536) → ((held ≡ true) × (at < length cache.first.piece.items)) ⊎
+    ((held ≡ true → (cache.first.last ≡ false) × (at ≡ length cache.first.piece.items))
+    × (has_number (cond held (number + 1) number) cache.other ≡ true))
+comes held number at cache is inside small full first apart has = elim (cases_lt at (length cache.first.piece.items)) [
   | inl less ↦ inl (is, less)
   | inr more ↦
-      let given : at ≡ length cache.piece.items = omega (arith, inside, more) in
-      let middle = false_from_ne_true cache.last (λ last. apart (is, last, given)) in
+      let given : at ≡ length cache.first.piece.items = omega (arith, inside, more) in
+      let middle = false_from_ne_true cache.first.last (λ last. apart (is, last, given)) in
       let next : (65536 * number + at) / 65536 ≡ number + 1 = omega (arith, given, full middle) in
       inr (
         (λ _. (middle, given)),
@@ -113,17 +115,17 @@ pub brought : (opened : List ℕ → List ℕ → List ℕ → Option (List ℕ)
     (place taken number : ℕ)
     (text : List ℕ) (cache : Cache) → AreBytes content.bytes → StandsIn content place rest → taken ≤ place → taken ≡ 65552 * number
     → TookText rest after text →
-    (cache.judged ≡ true) × (cache.number ≡ number) × (cache.used ≡ true) →
+    (cache.judged ≡ true) × (cache.first.number ≡ number) × (cache.used ≡ true) →
     (IsText (payload_at place taken content) number text → IsKept opened key (payload_at place taken content) cache) →
-    IsOpenedText opened key number text cache.piece.items cache.last
+    IsOpenedText opened key number text cache.first.piece.items cache.first.last
 brought opened key law content rest after place taken number text cache bytes stands fits stood took first kept =
     let payload = payload_at place taken content in
     let read = is-text content rest after place taken number text stands fits stood took in
-    let held = subst (λ n. IsHeld opened key payload n cache.last 0 cache.piece.items) first.1 ((kept read).first first.0) in
+    let held = subst (λ n. IsHeld opened key payload n cache.first.last 0 cache.first.piece.items) first.1 ((kept read).first first.0) in
     record {
       ok = ap (chunk_of opened key number) (sym read.is) ∙ held.judged (λ e. absurd (omega (arith, e.full)));
       short = λ less. (held.whole (subst (λ (xs : List ℕ). length xs < 65552) (sym read.is) less)).1;
-      longer = text-held opened key law payload number 0 cache.last cache.piece.items
+      longer = text-held opened key law payload number 0 cache.first.last cache.first.piece.items
           (All-drop (λ x. x < 2 ^ 8) (place - taken) content.bytes bytes) held ∙ ap length read.is;
     }
 

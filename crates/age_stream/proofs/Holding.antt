@@ -1,11 +1,12 @@
 -- What a `StreamReader`'s steps do to what it keeps and to what reads can still deliver.
-use Rattle.std.specs.Prelude.{◌≡◌, ℕ, ◌+◌, ◌-◌, ◌*◌, ◌^◌, ◌<◌, ◌≤◌, Option, Ok, Err, Bool, true, false, List, [], ◌∷◌, ◌++◌, length, take, drop, min}
+use Rattle.std.specs.Prelude.{◌≡◌, ℕ, ◌+◌, ◌-◌, ◌*◌, ◌^◌, ◌<◌, ◌≤◌, Option, Ok, Err, Bool, true, false, IsTrue, List, [], ◌∷◌, ◌++◌, length, take, drop, min}
 use Rattle.std.proofs.Common.{refl, sym, ap, subst, ◌∙◌, inl, inr, arith, length-append, length-drop, add-one, length-take-le}
 use Rattle.std.proofs.lemmas.List.{append-nil, take-append-drop, drop-drop, drop_all, take_all, append_assoc, drop_at, take_at, nil_from_length, drop-append-le}
 use Rattle.std.proofs.lemmas.List.Elements.{All-drop, All-take}
 use Rattle.std.proofs.lemmas.Bool.{cases_lt, true≢false}
 use Rattle.age_error.specs.Bytes.{AreBytes}
 use Rattle.age_error.specs.declared.io.Error.{Error}
+use Rattle.age_io.specs.declared.traits.Read.{Ghosts}
 use Rattle.age_io.specs.Stretch.{Stretch, nothing, from_place, stretch-ext, IsCleanEnd, IsFault}
 use Rattle.age_io.specs.Reading.{StandsIn, Delivers, EndsEarly}
 use Rattle.age_v1.specs.Payload.{chunk_nonce}
@@ -13,7 +14,10 @@ use Rattle.age_v1.proofs.OpenedTexts.{Shorter}
 use Rattle.age_v1.specs.DeliveredPayload.{chunk_of, prepend, after_last, payload_delivers, text_at}
 use Rattle.age_v1.proofs.DeliveredChunks.{delivered-chunk, delivered-refused, delivered-cut}
 use Rattle.age_v1.proofs.WellEndedPayloads.{accepted, delivered-nothing}
-use Rattle.age_stream.specs.Reading.{payload_at, behind, rest_of, spare, IsRestOfText, IsHeld, IsPast, StandsBeforeChunk, IsInside, IsSound, TookFromInner, TookText}
+use Rattle.age_stream.specs.declared.cache.Cache.{Cache}
+use Rattle.age_stream.specs.declared.place.Place.{Place}
+use Rattle.age_stream.specs.declared.source.Source.{Source}
+use Rattle.age_stream.specs.Reading.{payload_at, payload_from, behind, rest_of, spare, tells_from, IsRestOfText, IsHeld, IsPast, StandsBeforeChunk, IsInside, IsSound, TookFromInner, TookText}
 use Rattle.age_stream.specs.ReadingLemmas.{taken-rest}
 use Rattle.age_v1.proofs.TextLengths.{length-text, plain-inside}
 
@@ -125,84 +129,99 @@ front-gives content place front old new is came = λ well.
     ∙ drop-drop (length front) place content.bytes)
     (came.end ∙ ap (λ s. s.ends_well) was)
 
+-- where a reader stands that hasn't failed
+pub record StandsAt (place : Place) (in_chunk from_front : ℕ) (holds has_sought : Bool) : Type 0 where
+  pub number : place.number ≡ in_chunk
+  pub at : place.at ≡ from_front
+  pub held : place.held ≡ holds
+  pub sought : place.sought ≡ has_sought
+  pub good : place.failed ≡ false
+
 module _ (opened : List ℕ → List ℕ → List ℕ → Option (List ℕ)) (key : List ℕ) where
   -- ---- what reads can still deliver
 
-  pub rest_failed : (failed held : Bool) (at : ℕ) (chunk : List ℕ) (last : Bool) (number : ℕ) (rest : Stretch) → failed ≡ true
-      → rest_of opened key failed held at chunk last number rest ≡ nothing
+  pub rest_failed : (place : Place) (cache : Cache) (rest : Stretch) → place.failed ≡ true → rest_of opened key place cache rest ≡ nothing
   unfolding rest_of
-  rest_failed failed held at chunk last number rest is = rw is refl
+  rest_failed place cache rest is = rw is refl
 
-  pub fault_failed : (failed held : Bool) (at : ℕ) (chunk : List ℕ) (last : Bool) (number : ℕ) (rest : Stretch) → failed ≡ true
-      → IsFault (rest_of opened key failed held at chunk last number rest)
-  fault_failed failed held at chunk last number rest is = fault-of _ (rest_failed failed held at chunk last number rest is)
+  pub fault_failed : (place : Place) (cache : Cache) (rest : Stretch) → place.failed ≡ true → IsFault (rest_of opened key place cache rest)
+  fault_failed place cache rest is = fault-of _ (rest_failed place cache rest is)
 
-  pub rest-held : (failed held : Bool) (at : ℕ) (chunk : List ℕ) (last : Bool) (number : ℕ) (rest : Stretch) → failed ≡ false → held ≡ true →
-      rest_of opened key failed held at chunk last number rest ≡ prepend (drop at chunk) (behind opened key last number rest)
+  pub rest-held : (place : Place) (cache : Cache) (rest : Stretch) → place.failed ≡ false → place.held ≡ true →
+      rest_of opened key place cache rest ≡ prepend (drop place.at cache.first.piece.items) (behind opened key cache.first.last place.number rest)
   unfolding rest_of
-  rest-held failed held at chunk last number rest good is = rw (good, is) refl
+  rest-held place cache rest good is = rw (good, is) refl
 
-  pub rest-open : (failed held : Bool) (at : ℕ) (chunk : List ℕ) (last : Bool) (number : ℕ) (rest : Stretch) → failed ≡ false → held ≡ false →
-      rest_of opened key failed held at chunk last number rest ≡ from_place at (payload_delivers opened key number rest)
+  pub rest-open : (place : Place) (cache : Cache) (rest : Stretch) → place.failed ≡ false → place.held ≡ false →
+      rest_of opened key place cache rest ≡ from_place place.at (payload_delivers opened key place.number rest)
   unfolding rest_of
-  rest-open failed held at chunk last number rest good is = rw (good, is) refl
+  rest-open place cache rest good is = rw (good, is) refl
+
+  -- the place is the same
+  pub rest-like : (place now : Place) (cache : Cache) (rest : Stretch) → now.number ≡ place.number → now.at ≡ place.at → now.held ≡ place.held
+      → now.failed ≡ place.failed → rest_of opened key now cache rest ≡ rest_of opened key place cache rest
+  unfolding rest_of
+  rest-like place now cache rest number at held failed = rw (failed, held, at, number) refl
 
   -- the place is the front of the next chunk
-  pub rest-passed : (failed held last : Bool) (at : ℕ) (chunk : List ℕ) (number : ℕ) (rest : Stretch) → failed ≡ false → held ≡ true
-      → last ≡ false → at ≡ length chunk →
-      rest_of opened key failed false 0 chunk last (number + 1) rest ≡ rest_of opened key failed held at chunk last number rest
-  rest-passed failed held last at chunk number rest good is middle given =
-      rest-open failed false 0 chunk last (number + 1) rest good refl
-      ∙ sym (rest-held failed held at chunk last number rest good is ∙ rw (drop_all at chunk (omega (arith, given)), middle) refl)
+  pub rest-passed : (place now : Place) (cache : Cache) (rest : Stretch) → place.failed ≡ false → place.held ≡ true → cache.first.last ≡ false
+      → place.at ≡ length cache.first.piece.items → StandsAt now (place.number + 1) 0 false place.sought →
+      rest_of opened key now cache rest ≡ rest_of opened key place cache rest
+  rest-passed place now cache rest good is middle given there =
+      rest-open now cache rest there.good there.held
+      ∙ rw (there.at, there.number) (sym (rest-held place cache rest good is
+      ∙ rw (drop_all place.at cache.first.piece.items (omega (arith, given)), middle) refl))
 
   -- nothing is held after the last chunk
-  rest-last : (failed held last : Bool) (at : ℕ) (chunk : List ℕ) (number : ℕ) (rest : Stretch) → failed ≡ false → held ≡ true → last ≡ true
-      → at ≡ length chunk →
-      rest_of opened key failed held at chunk last number rest ≡ after_last rest.bytes rest.ends_well
-  rest-last failed held last at chunk number rest good is end given =
-      rest-held failed held at chunk last number rest good is ∙ rw (drop_all at chunk (omega (arith, given)), end) refl
+  rest-last : (place : Place) (cache : Cache) (rest : Stretch) → place.failed ≡ false → place.held ≡ true → cache.first.last ≡ true
+      → place.at ≡ length cache.first.piece.items → rest_of opened key place cache rest ≡ after_last rest.bytes rest.ends_well
+  rest-last place cache rest good is end given =
+      rest-held place cache rest good is ∙ rw (drop_all place.at cache.first.piece.items (omega (arith, given)), end) refl
 
-  pub end-early : (failed held last : Bool) (at : ℕ) (chunk : List ℕ) (number : ℕ) (rest : Stretch) → failed ≡ false → held ≡ true → last ≡ true
-      → at ≡ length chunk →
-      EndsEarly 1 rest → IsFault (rest_of opened key failed held at chunk last number rest)
-  end-early failed held last at chunk number rest good is end given early =
+  pub end-early : (place : Place) (cache : Cache) (rest : Stretch) → place.failed ≡ false → place.held ≡ true → cache.first.last ≡ true
+      → place.at ≡ length cache.first.piece.items → EndsEarly 1 rest → IsFault (rest_of opened key place cache rest)
+  end-early place cache rest good is end given early =
       let none : rest.bytes ≡ [] = nil_from_length rest.bytes (omega (arith, early.short)) in
-      fault-of _ (rest-last failed held last at chunk number rest good is end given ∙ rw (none, early.badly) refl)
+      fault-of _ (rest-last place cache rest good is end given ∙ rw (none, early.badly) refl)
 
   some-more : (bytes : List ℕ) (w : Bool) → 0 < length bytes → after_last bytes w ≡ nothing
   some-more [] w some = absurd (omega arith)
   some-more (x ∷ xs) w some = refl
 
-  pub end-more : (failed held last : Bool) (at : ℕ) (chunk : List ℕ) (number : ℕ) (rest after : Stretch) (text : List ℕ) → failed ≡ false
-      → held ≡ true → last ≡ true → at ≡ length chunk →
-      Delivers text rest after → 0 < length text → IsFault (rest_of opened key failed held at chunk last number rest)
-  end-more failed held last at chunk number rest after text good is end given came some =
-      fault-of _ (rest-last failed held last at chunk number rest good is end given
+  pub end-more : (place : Place) (cache : Cache) (rest after : Stretch) (text : List ℕ) → place.failed ≡ false → place.held ≡ true
+      → cache.first.last ≡ true → place.at ≡ length cache.first.piece.items → Delivers text rest after → 0 < length text
+      → IsFault (rest_of opened key place cache rest)
+  end-more place cache rest after text good is end given came some =
+      fault-of _ (rest-last place cache rest good is end given
       ∙ some-more rest.bytes rest.ends_well (omega (arith, ap length came.bytes, length-append text after.bytes)))
 
-  pub end-clean : (failed held last : Bool) (at : ℕ) (chunk : List ℕ) (number : ℕ) (rest after : Stretch) (text : List ℕ) → failed ≡ false
-      → held ≡ true → last ≡ true → at ≡ length chunk →
+  pub end-clean : (place now : Place) (cache : Cache) (rest after : Stretch) (text : List ℕ) → place.failed ≡ false → place.held ≡ true
+      → cache.first.last ≡ true → place.at ≡ length cache.first.piece.items → StandsAt now place.number place.at true place.sought →
       Delivers text rest after → length text ≡ 0 → IsCleanEnd after →
-      IsCleanEnd (rest_of opened key failed held at chunk last number rest)
-      × (rest_of opened key false held at chunk last number after ≡ rest_of opened key failed held at chunk last number rest)
-  end-clean failed held last at chunk number rest after text good is end given came none clean =
+      IsCleanEnd (rest_of opened key place cache rest) × (rest_of opened key now cache after ≡ rest_of opened key place cache rest)
+  end-clean place now cache rest after text good is end given there came none clean =
       let no_text : text ≡ [] = nil_from_length text none in
       let no_bytes : rest.bytes ≡ [] = came.bytes ∙ rw (no_text, clean.bytes) refl in
       let well : rest.ends_well ≡ true = sym came.end ∙ clean.ends_well in
-      let before = rest-last failed held last at chunk number rest good is end given ∙ rw (no_bytes, well) refl in
-      let later = rest-last false held last at chunk number after refl is end given ∙ rw (clean.bytes, clean.ends_well) refl in
+      let before = rest-last place cache rest good is end given ∙ rw (no_bytes, well) refl in
+      let later = rest-last now cache after there.good there.held end (there.at ∙ given) ∙ rw (clean.bytes, clean.ends_well) refl in
       (rw before record { bytes = refl; ends_well = refl }, later ∙ sym before)
 
   -- what was copied from the chunk that is held was delivered
-  pub gives : (failed held last : Bool) (at count : ℕ) (chunk : List ℕ) (number : ℕ) (rest : Stretch) (front : List ℕ) →
-      failed ≡ false → held ≡ true → front ≡ take count (drop at chunk) →
-      Delivers front (rest_of opened key failed held at chunk last number rest) (rest_of opened key failed held (at + count) chunk last number rest)
-  gives failed held last at count chunk number rest front good is same =
-      let b = behind opened key last number rest in
-      let onward : drop count (drop at chunk) ≡ drop (at + count) chunk = drop-drop count at chunk in
-      rw (rest-held failed held at chunk last number rest good is, rest-held failed held (at + count) chunk last number rest good is) record {
-        bytes = rw (same, ← onward) (ap (λ h. h ++ b.bytes) (sym (take-append-drop count (drop at chunk)))
-            ∙ append_assoc (take count (drop at chunk)) (drop count (drop at chunk)) b.bytes);
+  pub gives : (place now : Place) (cache new_cache : Cache) (count : ℕ) (rest : Stretch) (front : List ℕ) →
+      place.failed ≡ false → place.held ≡ true → StandsAt now place.number (place.at + count) true place.sought →
+      new_cache.first.piece.items ≡ cache.first.piece.items → new_cache.first.last ≡ cache.first.last
+      → front ≡ take count (drop place.at cache.first.piece.items) →
+      Delivers front (rest_of opened key place cache rest) (rest_of opened key now new_cache rest)
+  gives place now cache new_cache count rest front good is there piece last same =
+      let chunk = cache.first.piece.items in
+      let b = behind opened key cache.first.last place.number rest in
+      let onward : drop count (drop place.at chunk) ≡ drop (place.at + count) chunk = drop-drop count place.at chunk in
+      let later : rest_of opened key now new_cache rest ≡ prepend (drop (place.at + count) chunk) b =
+      rest-held now new_cache rest there.good there.held ∙ rw (there.at, there.number, piece, last) refl in
+      rw (rest-held place cache rest good is, later) record {
+        bytes = rw (same, ← onward) (ap (λ h. h ++ b.bytes) (sym (take-append-drop count (drop place.at chunk)))
+            ∙ append_assoc (take count (drop place.at chunk)) (drop count (drop place.at chunk)) b.bytes);
         end = refl;
       }
 
@@ -212,22 +231,22 @@ module _ (opened : List ℕ → List ℕ → List ℕ → Option (List ℕ)) (ke
   gone-from : (at : ℕ) (s : Stretch) → s ≡ nothing → from_place at s ≡ nothing
   gone-from at s is = ap (from_place at) is ∙ stretch-ext (from_place at nothing) nothing (drop_all at [] (omega arith)) refl
 
-  pub open-early : (failed held last : Bool) (at : ℕ) (chunk : List ℕ) (number : ℕ) (rest : Stretch) → failed ≡ false → held ≡ false →
-      EndsEarly 65552 rest → IsFault (rest_of opened key failed held at chunk last number rest)
-  open-early failed held last at chunk number rest good is early =
-      let gone : payload_delivers opened key number rest ≡ nothing = rw early.badly (delivered-cut opened key number rest.bytes early.short) in
-      fault-of _ (rest-open failed held at chunk last number rest good is ∙ gone-from at _ gone)
+  pub open-early : (place : Place) (cache : Cache) (rest : Stretch) → place.failed ≡ false → place.held ≡ false →
+      EndsEarly 65552 rest → IsFault (rest_of opened key place cache rest)
+  open-early place cache rest good is early =
+      let gone : payload_delivers opened key place.number rest ≡ nothing =
+      rw early.badly (delivered-cut opened key place.number rest.bytes early.short) in
+      fault-of _ (rest-open place cache rest good is ∙ gone-from place.at _ gone)
 
   over-by : (text : List ℕ) (rest after : Stretch) → TookText rest after text → length text < 65552 → (after.bytes ≡ []) × (rest.ends_well ≡ true)
   over-by text rest after took less = ((took.ended less).bytes, sym took.came.end ∙ (took.ended less).ends_well)
 
-  pub open-refused : (failed held last : Bool) (at : ℕ) (chunk : List ℕ) (number : ℕ) (rest after : Stretch) (text : List ℕ) (e : Error)
-      → failed ≡ false → held ≡ false →
-      TookText rest after text → chunk_of opened key number text ≡ Err e → IsFault (rest_of opened key failed held at chunk last number rest)
-  open-refused failed held last at chunk number rest after text e good is took bad =
-      let gone : payload_delivers opened key number rest ≡ nothing =
-      rw took.came.bytes (delivered-refused opened key number text after.bytes rest.ends_well e took.most (over-by text rest after took) bad) in
-      fault-of _ (rest-open failed held at chunk last number rest good is ∙ gone-from at _ gone)
+  pub open-refused : (place : Place) (cache : Cache) (rest after : Stretch) (text : List ℕ) (e : Error) → place.failed ≡ false → place.held ≡ false →
+      TookText rest after text → chunk_of opened key place.number text ≡ Err e → IsFault (rest_of opened key place cache rest)
+  open-refused place cache rest after text e good is took bad =
+      let gone : payload_delivers opened key place.number rest ≡ nothing =
+      rw took.came.bytes (delivered-refused opened key place.number text after.bytes rest.ends_well e took.most (over-by text rest after took) bad) in
+      fault-of _ (rest-open place cache rest good is ∙ gone-from place.at _ gone)
 
   opened-rest : (number : ℕ) (rest after : Stretch) (text plain : List ℕ) (last : Bool) → TookText rest after text →
       (length text < 65552 → last ≡ true) → chunk_of opened key number text ≡ Ok (plain, last) →
@@ -236,31 +255,37 @@ module _ (opened : List ℕ → List ℕ → List ℕ → Option (List ℕ)) (ke
       let chunked = delivered-chunk opened key number text after.bytes rest.ends_well plain last took.most (over-by text rest after took) short is in
       rw (took.came.bytes, add-one, took.came.end) chunked
 
-  -- the chunk at the place is held now
-  pub rest-opened : (failed held last new_last : Bool) (at : ℕ) (chunk plain : List ℕ) (number : ℕ) (rest after : Stretch) (text : List ℕ)
-      → failed ≡ false → held ≡ false →
-      TookText rest after text → (length text < 65552 → new_last ≡ true) → chunk_of opened key number text ≡ Ok (plain, new_last)
-      → at ≤ length plain →
-      rest_of opened key false true at plain new_last number after ≡ rest_of opened key failed held at chunk last number rest
-  rest-opened failed held last new_last at chunk plain number rest after text good is took short ok within =
-      rest-held false true at plain new_last number after refl refl
-      ∙ stretch-ext _ _ (sym (drop-append-le at plain (behind opened key new_last number after).bytes within)) refl
-      ∙ sym (rest-open failed held at chunk last number rest good is
-      ∙ ap (from_place at) (opened-rest number rest after text plain new_last took short ok))
+  module _ (place now : Place) (cache new_cache : Cache) (rest after : Stretch) (text : List ℕ) (good : place.failed ≡ false)
+      (is : place.held ≡ false) (there : StandsAt now place.number place.at true place.sought) (took : TookText rest after text)
+      (short : length text < 65552 → new_cache.first.last ≡ true)
+      (ok : chunk_of opened key place.number text ≡ Ok (new_cache.first.piece.items, new_cache.first.last)) where
+    opened-now : rest_of opened key now new_cache after
+        ≡ prepend (drop place.at new_cache.first.piece.items) (behind opened key new_cache.first.last place.number after)
+    opened-now = rest-held now new_cache after there.good there.held ∙ rw (there.at, there.number) refl
 
-  -- an empty chunk was opened: nothing but a clean end was left
-  pub clean-opened : (failed held last new_last : Bool) (at : ℕ) (chunk plain : List ℕ) (number : ℕ) (rest after : Stretch) (text : List ℕ)
-      → failed ≡ false → held ≡ false →
-      TookText rest after text → (length text < 65552 → new_last ≡ true) →
-      chunk_of opened key number text ≡ Ok (plain, new_last) → length plain + 16 ≡ length text → (0 < at → at < length plain) → at ≡ length plain →
-      IsCleanEnd (rest_of opened key failed held at chunk last number rest)
-  clean-opened failed held last new_last at chunk plain number rest after text good is took short ok longer before whole =
-      let none : at ≡ 0 = elim (cases_lt 0 at) [ inl some ↦ absurd (omega (arith, before some, whole)) | inr zero ↦ omega (arith, zero) ] in
-      let few : length text < 65552 = omega (arith, whole, longer, none) in
-      let same = rest-opened failed held last new_last at chunk plain number rest after text good is took short ok (omega (arith, whole)) in
-      let now = rest-held false true at plain new_last number after refl refl in
-      let end = took.ended few in
-      rw (← same, now, short few, drop_all at plain (omega (arith, whole)), end.bytes, end.ends_well) record { bytes = refl; ends_well = refl }
+    -- the chunk at the place is held now
+    pub rest-opened : place.at ≤ length new_cache.first.piece.items → rest_of opened key now new_cache after ≡ rest_of opened key place cache rest
+    rest-opened within =
+        let plain = new_cache.first.piece.items in
+        opened-now
+        ∙ stretch-ext _ _ (sym (drop-append-le place.at plain (behind opened key new_cache.first.last place.number after).bytes within)) refl
+        ∙ sym (rest-open place cache rest good is
+        ∙ ap (from_place place.at) (opened-rest place.number rest after text plain new_cache.first.last took short ok))
+
+    -- an empty chunk was opened: nothing but a clean end was left
+    pub clean-opened : length new_cache.first.piece.items + 16 ≡ length text → (0 < place.at → place.at < length new_cache.first.piece.items)
+        → place.at ≡ length new_cache.first.piece.items → IsCleanEnd (rest_of opened key place cache rest)
+    clean-opened longer before whole =
+        let plain = new_cache.first.piece.items in
+        let none : place.at ≡ 0 = elim (cases_lt 0 place.at) [
+          | inl some ↦ absurd (omega (arith, before some, whole))
+          | inr zero ↦ omega (arith, zero)
+        ] in
+        let few : length text < 65552 = omega (arith, whole, longer, none) in
+        let same = rest-opened (omega (arith, whole)) in
+        let end = took.ended few in
+        rw (← same, opened-now, short few, drop_all place.at plain (omega (arith, whole)), end.bytes, end.ends_well)
+        record { bytes = refl; ends_well = refl }
 
   -- the text of the chunk at the place was read and accepted
   pub held-now : (content rest after : Stretch) (place taken number at : ℕ) (text plain : List ℕ) (last : Bool) → StandsIn content place rest
@@ -309,108 +334,150 @@ module _ (opened : List ℕ → List ℕ → List ℕ → Option (List ℕ)) (ke
 
   -- ---- what a reader keeps
 
-  -- a new reader
-  pub sound-new : (chunk : List ℕ) (last : Bool) (place : ℕ) (content rest : Stretch) → StandsIn content place rest →
-      IsSound opened key false false 0 chunk last false 0 0 place content rest
-  sound-new chunk last place content rest stands = let whole : place ≡ place - 0 = omega arith in record {
-    fits = omega arith;
-    inside = record { front = omega arith; inside = λ some. absurd (omega arith) };
-    before = λ _ _. record { stood = refl; under = omega arith; inside = λ some. absurd (omega arith) };
-    is_held = λ held. absurd (true≢false (sym held));
-    is_past = λ _ held. absurd (true≢false (sym held));
-    front = λ _ _ well.
-        let unheld = rest-open false false 0 chunk last 0 rest refl refl in
-        unheld ∙ elim stands.reaches [
-          | inl is ↦ ap (payload_delivers opened key 0) (is ∙ ap (λ n. from_place n content) whole)
-          | inr is ↦ absurd (true≢false (sym well ∙ ap (λ s. s.ends_well)
-              (unheld ∙ ap (payload_delivers opened key 0) is ∙ delivered-nothing opened key 0)))
-        ];
-  }
-
-  module _ (failed held : Bool) (at : ℕ) (chunk : List ℕ) (last sought : Bool) (number taken place : ℕ) (content rest : Stretch)
-      (sound : IsSound opened key failed held at chunk last sought number taken place content rest) where
-    -- bytes of the chunk that is held were given
-    pub sound-given : (law : Shorter opened key) (count : ℕ) → AreBytes content.bytes → failed ≡ false → held ≡ true → at + count ≤ length chunk
-        → length chunk ≤ 65536 →
-        IsSound opened key failed held (at + count) chunk last sought number taken place content rest
-    sound-given law count bytes good is_held within small =
-        let payload = payload_at place taken content in
-        let text = text_at number payload in
-        let all : AreBytes payload.bytes = All-drop (λ x. x < 2 ^ 8) (place - taken) content.bytes bytes in
-        let are : AreBytes text = All-take (λ x. x < 2 ^ 8) 65552 (drop (65552 * number) payload.bytes)
-        (All-drop (λ x. x < 2 ^ 8) (65552 * number) payload.bytes all) in
-        let was = sound.is_held is_held in
-        let short = law number last text chunk are was.opens in
-        let here : 65536 * number + at + length (take count (drop at chunk)) ≡ 65536 * number + (at + count) =
-        omega (arith, length-take-le count (drop at chunk) (omega (arith, length-drop at chunk))) in
+  module _ {R : Type 0} {read : Ghosts R} where
+    -- a new reader
+    pub sound-new : (now : Place) (cache : Cache) (source : Source R read) → StandsAt now 0 0 false false → source.taken ≡ 0
+        → StandsIn (read.content source.inner) (read.place source.inner) (read.rest source.inner) → IsSound opened key now cache source
+    sound-new now cache source there none stands =
+        let payload = payload_from source in
+        let rest = read.rest source.inner in
+        let whole : read.place source.inner ≡ read.place source.inner - source.taken = omega (arith, none) in
         record {
-          fits = sound.fits;
-          inside = record {
-            front = sound.inside.front;
-            inside = λ some. plain-inside number (length text) (length chunk) (length payload.bytes) short
-                (length-text 65552 (65552 * number) payload.bytes) was.some (at + count) within;
-          };
-          before = λ _ shut. absurd (true≢false (sym is_held ∙ shut));
-          is_held = λ _. record {
-            opens = was.opens;
-            judged = λ apart. was.judged (λ e. apart (record { is_last = e.is_last; none = e.none; full = omega (arith, e.full, within, small) }));
-            whole = was.whole;
-            some = was.some;
-          };
-          is_past = sound.is_past;
-          front = λ unsought _. subst (λ n. IsRestOfText (payload_delivers opened key 0 payload) n
-              (rest_of opened key failed held (at + count) chunk last number rest)) here
-              (front-gives (payload_delivers opened key 0 payload) (65536 * number + at) (take count (drop at chunk)) _ _ (sound.front unsought good)
-              (gives failed held last at count chunk number rest (take count (drop at chunk)) good is_held refl));
-        }
-
-    -- a middle chunk was given whole
-    pub sound-passed : failed ≡ false → held ≡ true → last ≡ false → at ≡ length chunk → length chunk ≡ 65536 →
-        IsSound opened key failed false 0 chunk last sought (number + 1) taken place content rest
-    sound-passed good is_held middle given full =
-        let payload = payload_at place taken content in
-        let here : 65536 * number + at ≡ 65536 * (number + 1) + 0 = omega (arith, given, full) in
-        let same = rest-passed failed held last at chunk number rest good is_held middle given in
-        let inside = sound.inside.inside (omega (arith, given, full)) in
-        record {
-          fits = sound.fits;
-          inside = record { front = omega (arith, inside, given, full); inside = λ some. absurd (omega arith) };
+          inside = record { front = omega (arith, there.number); inside = λ some. absurd (omega (arith, there.at)) };
           before = λ _ _. record {
-            stood = omega (arith, (sound.is_past good is_held).stood middle);
-            under = omega arith;
-            inside = λ some. absurd (omega arith);
+            stood = omega (arith, none, there.number);
+            under = omega (arith, there.at);
+            inside = λ some. absurd (omega (arith, there.at));
           };
-          is_held = λ held_now. absurd (true≢false (sym held_now));
-          is_past = λ _ held_now. absurd (true≢false (sym held_now));
-          front = λ unsought _. subst (λ n. IsRestOfText (payload_delivers opened key 0 payload) n
-              (rest_of opened key failed false 0 chunk last (number + 1) rest)) here
-              (rw same (sound.front unsought good));
+          is_held = λ held. absurd (true≢false (sym held ∙ there.held));
+          is_past = λ _ held. absurd (true≢false (sym held ∙ there.held));
+          front = λ _ _ well.
+              let unheld : rest_of opened key now cache rest ≡ payload_delivers opened key 0 rest =
+              rest-open now cache rest there.good there.held ∙ rw (there.at, there.number) refl in
+              let front : 0 ≡ 65536 * now.number + now.at = omega (arith, there.number, there.at) in
+              subst (λ n. rest_of opened key now cache rest ≡ from_place n (payload_delivers opened key 0 payload)) front
+              (unheld ∙ elim stands.reaches [
+                | inl is ↦ ap (payload_delivers opened key 0) (is ∙ ap (λ n. from_place n (read.content source.inner)) whole)
+                | inr is ↦ absurd (true≢false (sym well ∙ ap (λ s. s.ends_well)
+                    (unheld ∙ ap (payload_delivers opened key 0) is ∙ delivered-nothing opened key 0)))
+              ]);
         }
 
-    -- the chunk at the place was read and opened
-    pub sound-opened : (new_taken new_place count : ℕ) (new_content new_rest : Stretch) (text plain : List ℕ) (new_last : Bool) →
-        new_content ≡ content → new_place ≡ place + count → new_place < 2 ^ 63 →
-        new_taken ≡ min (taken + count) (2 ^ 64 - 1) → failed ≡ false → held ≡ false → at ≤ length plain → StandsIn content place rest →
-        TookText rest new_rest text → length text ≡ count → (length text < 65552 → new_last ≡ true) →
-        chunk_of opened key number text ≡ Ok (plain, new_last) →
-        IsSound opened key false true at plain new_last sought number new_taken new_place new_content new_rest
-    sound-opened new_taken new_place count new_content new_rest text plain new_last same moved short took good is_open at_most stands took_text
-        counted short_last ok =
-        let read = payload-read content new_content place new_place taken new_taken count same moved short took sound.fits in
-        let kept = rest-opened failed held last new_last at chunk plain number rest new_rest text good is_open took_text short_last ok at_most in
-        let now = held-now content rest new_rest place taken number at text plain new_last stands sound.fits
-        (sound.before good is_open).stood took_text short_last ok in
-        let here : taken + length text ≡ new_taken = omega (arith, read.0, counted) in
-        let is_held = now.0 in
-        let is_past : IsPast (payload_at place taken content) number new_last new_taken new_rest =
-        subst (λ n. IsPast (payload_at place taken content) number new_last n new_rest) here now.1 in
-        record {
-          fits = omega (arith, read.0, moved, sound.fits);
-          inside = subst (λ p. IsInside (length p.bytes) number at) (sym read.1) sound.inside;
-          before = λ _ shut. absurd (true≢false shut);
-          is_held = λ _. subst (λ p. IsHeld opened key p number new_last at plain) (sym read.1) is_held;
-          is_past = λ _ _. subst (λ p. IsPast p number new_last new_taken new_rest) (sym read.1) is_past;
-          front = λ unsought _. subst (λ p. IsRestOfText (payload_delivers opened key 0 p) (65536 * number + at)
-              (rest_of opened key false true at plain new_last number new_rest)) (sym read.1)
-              (rw kept (sound.front unsought good));
-        }
+    module _ (place : Place) (cache : Cache) (source : Source R read) (sound : IsSound opened key place cache source) where
+      -- bytes of the chunk that is held were given
+      pub sound-given : (law : Shorter opened key) (now : Place) (new_cache : Cache) (count : ℕ) → AreBytes (read.content source.inner).bytes
+          → place.failed ≡ false → place.held ≡ true → place.at + count ≤ length cache.first.piece.items → length cache.first.piece.items ≤ 65536 →
+          StandsAt now place.number (place.at + count) true place.sought → new_cache.first.piece.items ≡ cache.first.piece.items
+          → new_cache.first.last ≡ cache.first.last → IsSound opened key now new_cache source
+      sound-given law now new_cache count bytes good is_held within small there piece last =
+          let payload = payload_from source in
+          let rest = read.rest source.inner in
+          let chunk = cache.first.piece.items in
+          let text = text_at place.number payload in
+          let all : AreBytes payload.bytes =
+          All-drop (λ x. x < 2 ^ 8) (read.place source.inner - source.taken) (read.content source.inner).bytes bytes in
+          let are : AreBytes text = All-take (λ x. x < 2 ^ 8) 65552 (drop (65552 * place.number) payload.bytes)
+          (All-drop (λ x. x < 2 ^ 8) (65552 * place.number) payload.bytes all) in
+          let was = sound.is_held is_held in
+          let short = law place.number cache.first.last text chunk are was.opens in
+          let here : 65536 * place.number + place.at + length (take count (drop place.at chunk)) ≡ 65536 * now.number + now.at =
+          omega (arith, there.number, there.at, length-take-le count (drop place.at chunk) (omega (arith, length-drop place.at chunk))) in
+          record {
+            inside = record {
+              front = omega (arith, sound.inside.front, there.number);
+              inside = λ some. rw (there.number, there.at) (plain-inside place.number (length text) (length chunk) (length payload.bytes) short
+                  (length-text 65552 (65552 * place.number) payload.bytes) was.some (place.at + count) within);
+            };
+            before = λ _ shut. absurd (true≢false (sym there.held ∙ shut));
+            is_held = λ _. rw (there.number, there.at, piece, last) record {
+              opens = was.opens;
+              judged = λ apart. was.judged (λ e. apart (record { is_last = e.is_last; none = e.none; full = omega (arith, e.full, within, small) }));
+              whole = was.whole;
+              some = was.some;
+            };
+            is_past = λ _ _. rw (there.number, last) (sound.is_past good is_held);
+            front = λ unsought _. subst (λ n. IsRestOfText (payload_delivers opened key 0 payload) n (rest_of opened key now new_cache rest)) here
+                (front-gives (payload_delivers opened key 0 payload) (65536 * place.number + place.at) (take count (drop place.at chunk)) _ _
+                (sound.front (sym there.sought ∙ unsought) good)
+                (gives place now cache new_cache count rest (take count (drop place.at chunk)) good is_held there piece last refl));
+          }
+
+      -- no byte came of the inner reader
+      pub sound-stayed : (now : Place) (new : Source R read) → place.failed ≡ false → place.held ≡ true →
+          StandsAt now place.number place.at true place.sought → payload_from new ≡ payload_from source → new.taken ≡ source.taken
+          → read.rest new.inner ≡ read.rest source.inner → IsSound opened key now cache new
+      sound-stayed now new good is_held there same taken rest =
+          let payload = payload_from source in
+          let here : 65536 * place.number + place.at ≡ 65536 * now.number + now.at = omega (arith, there.number, there.at) in
+          let kept : rest_of opened key now cache (read.rest new.inner) ≡ rest_of opened key place cache (read.rest source.inner) =
+          ap (rest_of opened key now cache) rest
+          ∙ rest-like place now cache (read.rest source.inner) there.number there.at (there.held ∙ sym is_held) (there.good ∙ sym good) in
+          record {
+            inside = subst (λ p. IsInside (length p.bytes) now.number now.at) (sym same) (rw (there.number, there.at) sound.inside);
+            before = λ _ shut. absurd (true≢false (sym there.held ∙ shut));
+            is_held = λ _. subst (λ p. IsHeld opened key p now.number cache.first.last now.at cache.first.piece.items) (sym same)
+                (rw (there.number, there.at) (sound.is_held is_held));
+            is_past = λ _ _. subst (λ p. IsPast p now.number cache.first.last new.taken (read.rest new.inner)) (sym same)
+                (rw (there.number, taken, rest) (sound.is_past good is_held));
+            front = λ unsought _.
+                subst (λ p. IsRestOfText (payload_delivers opened key 0 p) (65536 * now.number + now.at)
+                (rest_of opened key now cache (read.rest new.inner))) (sym same)
+                (subst (λ n. IsRestOfText (payload_delivers opened key 0 payload) n (rest_of opened key now cache (read.rest new.inner))) here
+                (rw kept (sound.front (sym there.sought ∙ unsought) good)));
+          }
+
+      -- a middle chunk was given whole
+      pub sound-passed : (now : Place) → place.failed ≡ false → place.held ≡ true → cache.first.last ≡ false
+          → place.at ≡ length cache.first.piece.items
+          → length cache.first.piece.items ≡ 65536 → StandsAt now (place.number + 1) 0 false place.sought → IsSound opened key now cache source
+      sound-passed now good is_held middle given full there =
+          let payload = payload_from source in
+          let rest = read.rest source.inner in
+          let here : 65536 * place.number + place.at ≡ 65536 * now.number + now.at = omega (arith, given, full, there.number, there.at) in
+          let same = rest-passed place now cache rest good is_held middle given there in
+          let inside = sound.inside.inside (omega (arith, given, full)) in
+          record {
+            inside = record {
+              front = omega (arith, inside, given, full, there.number);
+              inside = λ some. absurd (omega (arith, there.at));
+            };
+            before = λ _ _. record {
+              stood = omega (arith, (sound.is_past good is_held).stood middle, there.number);
+              under = omega (arith, there.at);
+              inside = λ some. absurd (omega (arith, there.at));
+            };
+            is_held = λ held_now. absurd (true≢false (sym held_now ∙ there.held));
+            is_past = λ _ held_now. absurd (true≢false (sym held_now ∙ there.held));
+            front = λ unsought _. subst (λ n. IsRestOfText (payload_delivers opened key 0 payload) n (rest_of opened key now cache rest)) here
+                (rw same (sound.front (sym there.sought ∙ unsought) good));
+          }
+
+      -- the chunk at the place was read and opened
+      pub sound-opened : (now : Place) (new_cache : Cache) (new : Source R read) (text : List ℕ) → IsTrue (tells_from source) →
+          payload_from new ≡ payload_from source → new.taken ≡ source.taken + length text → place.failed ≡ false → place.held ≡ false
+          → place.at ≤ length new_cache.first.piece.items → StandsIn (read.content source.inner) (read.place source.inner) (read.rest source.inner) →
+          TookText (read.rest source.inner) (read.rest new.inner) text → (length text < 65552 → new_cache.first.last ≡ true) →
+          chunk_of opened key place.number text ≡ Ok (new_cache.first.piece.items, new_cache.first.last) →
+          StandsAt now place.number place.at true place.sought → IsSound opened key now new_cache new
+      sound-opened now new_cache new text told same took good is_open within stands took_text short ok there =
+          let payload = payload_from source in
+          let plain = new_cache.first.piece.items in
+          let last = new_cache.first.last in
+          let kept = rest-opened place now cache new_cache (read.rest source.inner) (read.rest new.inner) text good is_open there took_text short ok
+          within in
+          let held = held-now (read.content source.inner) (read.rest source.inner) (read.rest new.inner) (read.place source.inner) source.taken
+          place.number place.at text plain last stands (source.fits told) (sound.before good is_open).stood took_text short ok in
+          let is_past : IsPast payload place.number last new.taken (read.rest new.inner) =
+          subst (λ n. IsPast payload place.number last n (read.rest new.inner)) (sym took) held.1 in
+          record {
+            inside = subst (λ p. IsInside (length p.bytes) now.number now.at) (sym same) (rw (there.number, there.at) sound.inside);
+            before = λ _ shut. absurd (true≢false (sym there.held ∙ shut));
+            is_held = λ _. subst (λ p. IsHeld opened key p now.number last now.at plain) (sym same) (rw (there.number, there.at) held.0);
+            is_past = λ _ _. subst (λ p. IsPast p now.number last new.taken (read.rest new.inner)) (sym same) (rw there.number is_past);
+            front = λ unsought _.
+                let here : 65536 * place.number + place.at ≡ 65536 * now.number + now.at = omega (arith, there.number, there.at) in
+                subst (λ p. IsRestOfText (payload_delivers opened key 0 p) (65536 * now.number + now.at)
+                (rest_of opened key now new_cache (read.rest new.inner))) (sym same)
+                (subst (λ n. IsRestOfText (payload_delivers opened key 0 payload) n (rest_of opened key now new_cache (read.rest new.inner))) here
+                (rw kept (sound.front (sym there.sought ∙ unsought) good)));
+          }

@@ -35,11 +35,6 @@ refused-by false m e holds is = cc
 pub refused-start : (k place len : ℕ) (e : Error) → k ≤ len → sought (Start k) place len ≡ Err e → ⊥
 refused-start k place len e within is = refused-by (nat_le k len) k e (le-leb k len within) is
 
-pub same-payload : (content new_content : Stretch) (place new_place taken new_taken : ℕ) → new_content ≡ content
-    → new_place - new_taken ≡ place - taken →
-    payload_at new_place new_taken new_content ≡ payload_at place taken content
-same-payload content new_content place new_place taken new_taken same start = rw (same, start) refl
-
 -- the inner reader stands in the payload
 pub payload-place : (content : Stretch) (start place taken : ℕ) → start ≡ place - taken → (at : ℕ) →
     from_place (start + at) content ≡ from_place at (payload_at place taken content)

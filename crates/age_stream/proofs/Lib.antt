@@ -7,6 +7,7 @@ pub mod Moving
 pub mod Sound
 pub mod Keeping
 pub mod Asking
+pub mod Making
 pub mod Stepping
 pub mod ReadSteps
 pub mod Opening

@@ -17,13 +17,6 @@ after_last-named = (tt, (λ same. let is : AfterLast ≡ BadEnd = same in absurd
 pub truncated-named : IsReadRefusal Truncated
 truncated-named = (tt, (λ same. let is : Truncated ≡ BadEnd = same in absurd (Prim.cc)))
 
-pub chunk-named : (e : Error) → IsChunkRefusal e → IsReadRefusal e
-chunk-named e h = (h.named, h.end)
-
--- the inner reader's own
-pub inner-named : {R : Type 0} (read : Ghosts R) (inner : R) (e : Error) → OwnOrInner read (λ _. ⊥) inner e → OwnOrInner read IsReadRefusal inner e
-inner-named read inner e h = elim h [ inl none ↦ absurd none | inr own ↦ inr own ]
-
 -- a seek of the inner reader's was refused, and told so
 pub sought-named : {R : Type 0} (read : Ghosts R) (seek_refuses : Error → Type 0) {to : SeekFrom} (before new : R) (error e : Error)
     → IsLost error e →
@@ -37,3 +30,11 @@ pub read-named : {R : Type 0} (read : Ghosts R) (seek_refuses : Error → Type 0
     RefusedBelow read wanted before new error → RefusedOnTheWay read seek_refuses new e
 read-named read seek_refuses wanted before new error e lost refused =
     record { before = before; error = error; asked = inr (wanted, refused); outside = lost.bad; same = lost.same }
+
+-- a chunk's
+pub chunk-named : (e : Error) → IsChunkRefusal e → IsReadRefusal e
+chunk-named e h = (h.named, h.end)
+
+-- the inner reader's own
+pub inner-named : {R : Type 0} (read : Ghosts R) (inner : R) (e : Error) → OwnOrInner read (λ _. ⊥) inner e → OwnOrInner read IsReadRefusal inner e
+inner-named read inner e h = elim h [ inl none ↦ absurd none | inr own ↦ inr own ]

@@ -16,7 +16,7 @@ no-refusal PastEnd outside own = own
 no-refusal _ outside own = outside
 
 module _ {S R : Type 0} {suite : SuiteGhosts S} {read : Ghosts R} where
-  pub outside-inner : (r : StreamReader S R suite read) (e : Error) → IsOutside e → refuses_of r e → TriedAgain read.refuses r.inner e
+  pub outside-inner : (r : StreamReader S R suite read) (e : Error) → IsOutside e → refuses_of r e → TriedAgain read.refuses r.source.inner e
   outside-inner r e outside why = elim why [
     | inl failed ↦ absurd (subst IsOutside failed.1 outside)
     | inr more ↦ elim more [

@@ -20,9 +20,9 @@ use Rattle.age_stream.proofs.Keeping.{content-kept, payload-refused, stream-kept
 
 module _ {S R : Type 0} {suite : SuiteGhosts S} {read : Ghosts R} (old new : StreamReader S R suite read) (buf : List ℕ) where
   -- a read that is refused leaves the reader failed
-  pub reads-refused : (e : Error) → KeepsPayload {T = Unit {0}} read (stops_of old) old.inner old.taken new.inner new.taken (Err e)
+  pub reads-refused : (e : Error) → KeepsPayload {T = Unit {0}} (stops_of old) old.source new.source (Err e)
       → new.key ≡ old.key → place_of new ≡ place_of old →
-      new.failed ≡ true → Told old new e (IsFault (plain_rest_of old))
+      new.place.failed ≡ true → Told old new e (IsFault (plain_rest_of old))
       → Reads tells_of steady_of content_of place_of plain_rest_of faults_of refuses_of old new buf (Err e)
   reads-refused e keeps key place failed cause = record {
     count = tt;
@@ -39,8 +39,7 @@ module _ {S R : Type 0} {suite : SuiteGhosts S} {read : Ghosts R} (old new : Str
     moves = λ _. tt;
     end = λ _. tt;
     stays = λ _. place;
-    left = λ _. inr (rest_failed suite.opened new.key new.failed new.held new.at new.cache.piece.items new.cache.last new.number
-        (read.rest new.inner) failed);
+    left = λ _. inr (rest_failed suite.opened new.key new.place new.cache (read.rest new.source.inner) failed);
     interrupted = λ _ i. absurd (keeps.inner.patient i);
     cause = cause;
   }
@@ -59,32 +58,20 @@ module _ {S R : Type 0} {suite : SuiteGhosts S} {read : Ghosts R} (old new : Str
     untouched = refl;
   }
 
-  pub chunks-refused : (e : Error) → (IsAfterLast old → ⊥) → ReadsChunks old new (Err e)
-  chunks-refused e apart = record {
-    held = tt;
-    at_end = λ is. absurd (apart is);
-    opened = λ _. tt;
-    uses = tt;
-    keeps_last = tt;
-    has = λ _. tt;
-    same_last = λ _. tt;
-    finds = tt;
-  }
-
   -- ---- after the last chunk
 
   module _ (at_end : IsAfterLast old) (stays : Stays old new) where
-    same-spare : spare new.held new.cache.last ≡ spare old.held old.cache.last
-    same-spare = ap (λ h. spare h new.cache.last) stays.held ∙ ap (λ k. spare old.held k.last) stays.cache
+    same-spare : spare new.place.held new.cache.first.last ≡ spare old.place.held old.cache.first.last
+    same-spare = ap (λ h. spare h new.cache.first.last) stays.held ∙ ap (λ k. spare old.place.held k.first.last) stays.cache
 
     same-place : place_of new ≡ place_of old
     same-place = omega (arith, stays.number, stays.at)
 
-    pub reads-end : (result : Result ℕ Error) → KeepsPayload read (stops_of old) old.inner old.taken new.inner new.taken result
+    pub reads-end : (result : Result ℕ Error) → KeepsPayload (stops_of old) old.source new.source result
         → IfOk result (λ n. n ≡ 0) → OnOk result (EndsClean old new) →
         IfErr result (RefusesPastLast old new) → Reads tells_of steady_of content_of place_of plain_rest_of faults_of refuses_of old new buf result
     reads-end (Err e) keeps none ends r =
-        reads-refused e (payload-refused read old.inner new.inner old.taken new.taken e keeps) stays.key same-place r.fails r.cause
+        reads-refused e (payload-refused old.source new.source e keeps) stays.key same-place r.fails r.cause
     reads-end (Ok n) keeps none ends r = record {
       count = omega (arith, none);
       same_tells = (stream-kept old new keeps stays.key).0;
@@ -93,7 +80,7 @@ module _ {S R : Type 0} {suite : SuiteGhosts S} {read : Ghosts R} (old new : Str
       device = tt;
       unspent = λ _. new.unspent ends.good (stays.held ∙ at_end.0);
       why = tt;
-      narrows = stream_narrows new.failed old new (λ is. absurd (true≢false (sym is ∙ ends.good))) keeps stays.key;
+      narrows = stream_narrows new.place.failed old new (λ is. absurd (true≢false (sym is ∙ ends.good))) keeps stays.key;
       again = tt;
       same_content = content-kept old new keeps stays.key;
       bytes = λ told. rw none (record { bytes = ap (λ s. s.bytes) (sym (ends.end told).1); end = ap (λ s. s.ends_well) (ends.end told).1 });
@@ -105,7 +92,7 @@ module _ {S R : Type 0} {suite : SuiteGhosts S} {read : Ghosts R} (old new : Str
       cause = λ _. tt;
     }
 
-    pub moves-end : new.sought ≡ old.sought → (result : Result ℕ Error) → IfOk result (λ n. n ≡ 0) → OnOk result (EndsClean old new)
+    pub moves-end : new.place.sought ≡ old.place.sought → (result : Result ℕ Error) → IfOk result (λ n. n ≡ 0) → OnOk result (EndsClean old new)
         → IfErr result (RefusesPastLast old new) → Moves old new result
     moves-end sought (Ok n) none ends r =
         record { key = stays.key; sought = sought; good = ends.good; fails = tt; placed = omega (arith, none, same-place); stayed = tt }
@@ -174,10 +161,10 @@ module _ {S R : Type 0} {suite : SuiteGhosts S} {read : Ghosts R} (old new : Str
 
 module _ {S R : Type 0} {suite : SuiteGhosts S} {read : Ghosts R} (old mid new : StreamReader S R suite read) where
   -- bytes of a chunk that is held were given
-  pub reads-given : (buf new_buf : List ℕ) (n : ℕ) → KeepsPayload read (stops_of old) old.inner old.taken new.inner new.taken (Ok n)
+  pub reads-given : (buf new_buf : List ℕ) (n : ℕ) → KeepsPayload (stops_of old) old.source new.source (Ok n)
       → StaysAt old mid → HasOpenedAt old mid → GivesHeld mid new →
       place_of new ≡ place_of mid + n → Delivers (take n new_buf) (plain_rest_of mid) (plain_rest_of new)
-      → n ≡ min (length buf) (length mid.cache.piece.items - mid.at) →
+      → n ≡ min (length buf) (length mid.cache.first.piece.items - mid.place.at) →
       length new_buf ≡ length buf → Reads tells_of steady_of content_of place_of plain_rest_of faults_of refuses_of old new new_buf (Ok n)
   reads-given buf new_buf n keeps stays holds given moves bytes count long =
       let key = given.key ∙ stays.key in
@@ -189,7 +176,7 @@ module _ {S R : Type 0} {suite : SuiteGhosts S} {read : Ghosts R} (old mid new :
         device = tt;
         unspent = λ _. new.unspent given.good (given.held ∙ holds.good.1);
         why = tt;
-        narrows = stream_narrows new.failed old new (λ is. absurd (true≢false (sym is ∙ given.good))) keeps key;
+        narrows = stream_narrows new.place.failed old new (λ is. absurd (true≢false (sym is ∙ given.good))) keeps key;
         again = tt;
         same_content = content-kept old new keeps key;
         bytes = λ told. subst (λ s. Delivers (take n new_buf) s (plain_rest_of new)) (holds.rest told) bytes;

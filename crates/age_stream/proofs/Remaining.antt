@@ -1,5 +1,5 @@
 -- What reads can still deliver stands in the plaintext, also where the payload is bad.
-use Rattle.std.specs.Prelude.{◌≡◌, ◌⊎◌, ℕ, ◌+◌, ◌-◌, ◌*◌, ◌/◌, ◌<◌, ◌≤◌, Option, Some, Ok, Err, Result, Bool, ◌&&◌, true, false, cond, List, [], ◌∷◌, ◌++◌, length, take, drop}
+use Rattle.std.specs.Prelude.{◌≡◌, ◌⊎◌, ℕ, ◌+◌, ◌-◌, ◌*◌, ◌/◌, ◌<◌, ◌≤◌, ◌&&◌, Option, Some, Ok, Err, Result, Bool, IsTrue, true, false, cond, List, [], ◌∷◌, ◌++◌, length, take, drop}
 use Rattle.std.proofs.Common.{zero, suc, get_or, refl, sym, ap, subst, ◌∙◌, inl, inr, arith, length-append, length-drop}
 use Rattle.std.proofs.Math.Seq.{drop-nil}
 use Rattle.std.proofs.lemmas.Bool.{cases_lt, true≢false}
@@ -8,13 +8,18 @@ use Rattle.std.proofs.lemmas.List.Elements.{All-drop, All-take}
 use Rattle.age_error.specs.Bytes.{AreBytes, AreBytesOf}
 use Rattle.age_error.specs.declared.io.Error.{Error}
 use Rattle.age_suite.specs.Suite.{IsCipher}
+use Rattle.age_io.specs.declared.traits.Read.{Ghosts}
 use Rattle.age_io.specs.Stretch.{Stretch, nothing, from_place}
 use Rattle.age_io.specs.Reading.{StandsIn}
-use Rattle.age_v1.specs.Payload.{Seal, chunk}
+use Rattle.age_v1.specs.Payload.{Seal}
 use Rattle.age_v1.proofs.OpenedTexts.{shorter}
 use Rattle.age_v1.specs.DeliveredPayload.{Chunk, is_empty, chunk_of, after_chunk, after_last, delivers, payload_delivers, text_at}
 use Rattle.age_v1.proofs.WellEndedPayloads.{accepted, delivered-nothing, well-length-by}
-use Rattle.age_stream.specs.Reading.{payload_at, behind, rest_of, IsHeld, IsPast, StandsBeforeChunk, IsSound}
+use Rattle.age_stream.specs.declared.cache.Cache.{Cache}
+use Rattle.age_stream.specs.declared.place.Place.{Place}
+use Rattle.age_stream.specs.declared.source.Source.{Source}
+use Rattle.age_stream.specs.PrivateCache.{IsAtChunk}
+use Rattle.age_stream.specs.Reading.{payload_from, behind, rest_of, tells_from, IsHeld, IsPast, StandsBeforeChunk, IsSound}
 use Rattle.age_stream.specs.ReadingLemmas.{taken-rest}
 use Rattle.age_v1.specs.PayloadAnswers.{OpensAs, IsByteAt, StandAt, IsGoodEnd}
 use Rattle.age_v1.proofs.JudgedChunks.{judged-middle, judged-last, ends_last}
@@ -168,29 +173,6 @@ module _ (seal_of : Seal) (opened : List ℕ → List ℕ → List ℕ → Optio
       subst (λ (l : List ℕ). StandAt seal_of key payload.bytes (65536 * number + at) l) (sym none)
       (stand-none seal_of key payload.bytes (65536 * number + at))
 
--- what a reader can still deliver, whatever was sought
-pub stand-rest : (seal_of : Seal) (opened : List ℕ → List ℕ → List ℕ → Option (List ℕ)) (law : IsCipher seal_of opened) (key : List ℕ)
-    (k : AreBytesOf 32 key)
-    (failed held : Bool) (at : ℕ) (chunk : List ℕ) (last sought : Bool) (number taken place : ℕ) (content rest : Stretch) → AreBytes content.bytes
-    → StandsIn content place rest →
-    (held ≡ true → at ≤ length chunk) → (held ≡ true → length chunk ≤ 65536) → (held ≡ true → last ≡ false → length chunk ≡ 65536) →
-    IsSound opened key failed held at chunk last sought number taken place content rest →
-    StandAt seal_of key (payload_at place taken content).bytes (65536 * number + at) (rest_of opened key failed held at chunk last number rest).bytes
-stand-rest seal_of opened law key k true held at chunk last sought number taken place content rest b stands within small full sound =
-    rw (rest_failed opened key true held at chunk last number rest refl)
-    (stand-none seal_of key (payload_at place taken content).bytes (65536 * number + at))
-stand-rest seal_of opened law key k false true at chunk last sought number taken place content rest b stands within small full sound =
-    let payload = payload_at place taken content in
-    rw (rest-held opened key false true at chunk last number rest refl refl)
-    (held-on seal_of opened law key k payload (All-drop (λ x. x < 256) (place - taken) content.bytes b) number at last chunk rest (sound.is_held refl)
-    (within refl) (small refl) (full refl) (sound.is_past refl refl).ahead)
-stand-rest seal_of opened law key k false false at chunk last sought number taken place content rest b stands within small full sound =
-    let payload = payload_at place taken content in
-    rw (rest-open opened key false false at chunk last number rest refl refl)
-    (before-on seal_of opened law key k payload (All-drop (λ x. x < 256) (place - taken) content.bytes b) number at taken rest
-    (sound.before refl refl).stood
-    (taken-rest content rest place taken stands sound.fits))
-
 -- ---- a clean end of what is left
 
 ended-by : (bytes : List ℕ) (w : Bool) → (is_empty bytes && w) ≡ true → (length bytes ≡ 0) × (w ≡ true)
@@ -332,27 +314,57 @@ module _ (seal_of : Seal) (opened : List ℕ → List ℕ → List ℕ → Optio
       ∙ sym (ap (λ s. (payload_delivers opened key number s).ends_well) is) ∙ well in
       absurd (true≢false (sym bad))
 
--- where what a reader can still deliver ends well, the payload does, at a length that fits, and with a last chunk
-pub good-rest : (seal_of : Seal) (opened : List ℕ → List ℕ → List ℕ → Option (List ℕ)) (law : IsCipher seal_of opened) (key : List ℕ)
-    (k : AreBytesOf 32 key)
-    (failed held : Bool) (at : ℕ) (chunk : List ℕ) (last sought : Bool) (number taken place : ℕ) (content rest : Stretch) → AreBytes content.bytes
-    → StandsIn content place rest →
-    (held ≡ true → at ≤ length chunk) → (held ≡ true → length chunk ≤ 65536) → (held ≡ true → last ≡ false → length chunk ≡ 65536) →
-    IsSound opened key failed held at chunk last sought number taken place content rest
-    → (rest_of opened key failed held at chunk last number rest).ends_well ≡ true →
-    IsGoodEnd seal_of key (payload_at place taken content)
-    (65536 * number + at + length (rest_of opened key failed held at chunk last number rest).bytes)
-good-rest seal_of opened law key k true held at chunk last sought number taken place content rest b stands within small full sound well =
-    absurd (true≢false (sym (rw (rest_failed opened key true held at chunk last number rest refl) at well)))
-good-rest seal_of opened law key k false true at chunk last sought number taken place content rest b stands within small full sound well =
-    let payload = payload_at place taken content in
-    let is = rest-held opened key false true at chunk last number rest refl refl in
-    rw is (good-held seal_of opened law key k payload (All-drop (λ x. x < 256) (place - taken) content.bytes b) number at taken last chunk rest
-    (sound.is_held refl)
-    (within refl) (small refl) (full refl) (sound.is_past refl refl) (rw is at well))
-good-rest seal_of opened law key k false false at chunk last sought number taken place content rest b stands within small full sound well =
-    let payload = payload_at place taken content in
-    let is = rest-open opened key false false at chunk last number rest refl refl in
-    rw is (good-before seal_of opened law key k payload (All-drop (λ x. x < 256) (place - taken) content.bytes b) number at taken rest
-    (sound.before refl refl)
-    (taken-rest content rest place taken stands sound.fits) (rw is at well))
+-- ---- what a reader can still deliver
+
+module _ (seal_of : Seal) (opened : List ℕ → List ℕ → List ℕ → Option (List ℕ)) (law : IsCipher seal_of opened) (key : List ℕ)
+    (k : AreBytesOf 32 key) {R : Type 0} {read : Ghosts R} (place : Place) (cache : Cache) (source : Source R read)
+    (told : IsTrue (tells_from source)) (bytes : AreBytes (read.content source.inner).bytes)
+    (stands : StandsIn (read.content source.inner) (read.place source.inner) (read.rest source.inner))
+    (chunk : place.held ≡ true → IsAtChunk place.number place.at cache) (sound : IsSound opened key place cache source) where
+  all-bytes : AreBytes (payload_from source).bytes
+  all-bytes = All-drop (λ x. x < 256) (read.place source.inner - source.taken) (read.content source.inner).bytes bytes
+
+  reaches : (read.rest source.inner ≡ from_place source.taken (payload_from source)) ⊎ (read.rest source.inner ≡ nothing)
+  reaches = taken-rest (read.content source.inner) (read.rest source.inner) (read.place source.inner) source.taken stands (source.fits told)
+
+  stand-by : (f h : Bool) → place.failed ≡ f → place.held ≡ h → StandAt seal_of key (payload_from source).bytes (65536 * place.number + place.at)
+      (rest_of opened key place cache (read.rest source.inner)).bytes
+  stand-by true h failed held =
+      rw (rest_failed opened key place cache (read.rest source.inner) failed)
+      (stand-none seal_of key (payload_from source).bytes (65536 * place.number + place.at))
+  stand-by false true good held =
+      let at = chunk held in
+      rw (rest-held opened key place cache (read.rest source.inner) good held)
+      (held-on seal_of opened law key k (payload_from source) all-bytes place.number place.at cache.first.last cache.first.piece.items (read.rest
+      source.inner)
+      (sound.is_held held) at.in_chunk at.small at.full (sound.is_past good held).ahead)
+  stand-by false false good shut =
+      rw (rest-open opened key place cache (read.rest source.inner) good shut)
+      (before-on seal_of opened law key k (payload_from source) all-bytes place.number place.at source.taken (read.rest source.inner)
+      (sound.before good shut).stood reaches)
+
+  -- It stands in the plaintext, whatever was sought.
+  pub stand-rest : StandAt seal_of key (payload_from source).bytes (65536 * place.number + place.at)
+      (rest_of opened key place cache (read.rest source.inner)).bytes
+  stand-rest = stand-by place.failed place.held refl refl
+
+  -- Where it ends well, the payload does, at a length that fits, and with a last chunk.
+  module _ (well : (rest_of opened key place cache (read.rest source.inner)).ends_well ≡ true) where
+    good-by : (f h : Bool) → place.failed ≡ f → place.held ≡ h → IsGoodEnd seal_of key (payload_from source)
+        (65536 * place.number + place.at + length (rest_of opened key place cache (read.rest source.inner)).bytes)
+    good-by true h failed held =
+        absurd (true≢false (sym well ∙ ap (λ s. s.ends_well) (rest_failed opened key place cache (read.rest source.inner) failed)))
+    good-by false true good held =
+        let at = chunk held in
+        let is = rest-held opened key place cache (read.rest source.inner) good held in
+        rw is (good-held seal_of opened law key k (payload_from source) all-bytes place.number place.at source.taken cache.first.last
+        cache.first.piece.items
+        (read.rest source.inner) (sound.is_held held) at.in_chunk at.small at.full (sound.is_past good held) (rw is at well))
+    good-by false false good shut =
+        let is = rest-open opened key place cache (read.rest source.inner) good shut in
+        rw is (good-before seal_of opened law key k (payload_from source) all-bytes place.number place.at source.taken (read.rest source.inner)
+        (sound.before good shut) reaches (rw is at well))
+
+    pub good-rest : IsGoodEnd seal_of key (payload_from source)
+        (65536 * place.number + place.at + length (rest_of opened key place cache (read.rest source.inner)).bytes)
+    good-rest = good-by place.failed place.held refl refl

@@ -8,7 +8,11 @@ use Rattle.age_io.specs.Stretch.{Stretch, nothing, from_place, stretch-ext}
 use Rattle.age_v1.proofs.OpenedTexts.{Shorter}
 use Rattle.age_v1.specs.DeliveredPayload.{payload_delivers}
 use Rattle.age_v1.proofs.WellEndedPayloads.{well-middle, well-single, delivered-nothing}
-use Rattle.age_stream.specs.Reading.{payload_at, behind, rest_of, IsSound}
+use Rattle.age_io.specs.declared.traits.Read.{Ghosts}
+use Rattle.age_stream.specs.declared.cache.Cache.{Cache}
+use Rattle.age_stream.specs.declared.place.Place.{Place}
+use Rattle.age_stream.specs.declared.source.Source.{Source}
+use Rattle.age_stream.specs.Reading.{payload_from, behind, rest_of, IsSound}
 use Rattle.age_stream.specs.ReadingLemmas.{held-reaches, reaches-before}
 use Rattle.age_stream.proofs.Holding.{rest-held, rest-open, rest_failed}
 
@@ -39,58 +43,55 @@ module _ (opened : List ℕ → List ℕ → List ℕ → Option (List ℕ)) (ke
   behind-badly true number = refl
   behind-badly false number = ap (λ s. s.ends_well) (delivered-nothing opened key (number + 1))
 
-  ends-badly : (failed held last : Bool) (at : ℕ) (chunk : List ℕ) (number : ℕ)
-      → (rest_of opened key failed held at chunk last number nothing).ends_well ≡ false
-  ends-badly true held last at chunk number = ap (λ s. s.ends_well) (rest_failed opened key true held at chunk last number nothing refl)
-  ends-badly false true last at chunk number =
-      ap (λ s. s.ends_well) (rest-held opened key false true at chunk last number nothing refl refl) ∙ behind-badly last number
-  ends-badly false false last at chunk number =
-      ap (λ s. s.ends_well) (rest-open opened key false false at chunk last number nothing refl refl)
-      ∙ ap (λ s. s.ends_well) (delivered-nothing opened key number)
+  ends-badly : (place : Place) (cache : Cache) → (rest_of opened key place cache nothing).ends_well ≡ false
+  ends-badly place cache = by place.failed place.held refl refl
+    where
+      by : (f h : Bool) → place.failed ≡ f → place.held ≡ h → (rest_of opened key place cache nothing).ends_well ≡ false
+      by true h failed held = ap (λ s. s.ends_well) (rest_failed opened key place cache nothing failed)
+      by false true good held = ap (λ s. s.ends_well) (rest-held opened key place cache nothing good held)
+          ∙ behind-badly cache.first.last place.number
+      by false false good shut = ap (λ s. s.ends_well) (rest-open opened key place cache nothing good shut)
+          ∙ ap (λ s. s.ends_well) (delivered-nothing opened key place.number)
 
   -- the inner reader was put back
-  pub rest-kept : (failed held last : Bool) (at : ℕ) (chunk : List ℕ) (number place taken : ℕ) (content payload rest new_rest : Stretch) →
-      rest_of opened key failed held at chunk last number rest ≡ from_place place content → content.ends_well ≡ true →
+  pub rest-kept : (place : Place) (cache : Cache) (before taken : ℕ) (content payload rest new_rest : Stretch) →
+      rest_of opened key place cache rest ≡ from_place before content → content.ends_well ≡ true →
       ((rest ≡ from_place taken payload) ⊎ (rest ≡ nothing)) → new_rest ≡ from_place taken payload →
-      rest_of opened key failed held at chunk last number new_rest ≡ rest_of opened key failed held at chunk last number rest
-  rest-kept failed held last at chunk number place taken content payload rest new_rest sound well (inl is) back =
-      ap (λ s. rest_of opened key failed held at chunk last number s) (back ∙ sym is)
-  rest-kept failed held last at chunk number place taken content payload rest new_rest sound well (inr is) back =
+      rest_of opened key place cache new_rest ≡ rest_of opened key place cache rest
+  rest-kept place cache before taken content payload rest new_rest sound well (inl is) back =
+      ap (λ s. rest_of opened key place cache s) (back ∙ sym is)
+  rest-kept place cache before taken content payload rest new_rest sound well (inr is) back =
       absurd (true≢false (sym well ∙ sym (ap (λ s. s.ends_well) sound)
-      ∙ ap (λ s. (rest_of opened key failed held at chunk last number s).ends_well) is
-      ∙ ends-badly failed held last at chunk number))
+      ∙ ap (λ s. (rest_of opened key place cache s).ends_well) is
+      ∙ ends-badly place cache))
 
-  module _ (law : Shorter opened key) where
-    sound-by : (failed held : Bool) (at : ℕ) (chunk : List ℕ) (last sought : Bool) (number taken place : ℕ) (content rest : Stretch)
-        → AreBytes (payload_at place taken content).bytes →
-        (payload_delivers opened key 0 (payload_at place taken content)).ends_well ≡ true → failed ≡ false → (held ≡ true → at ≤ length chunk) →
-        IsSound opened key failed held at chunk last sought number taken place content rest →
-        (held ≡ false → (rest ≡ from_place taken (payload_at place taken content))
-        × (65552 * number < length (payload_at place taken content).bytes)) →
-        (h : Bool) → held ≡ h → rest_of opened key failed held at chunk last number rest
-        ≡ from_place (65536 * number + at) (payload_delivers opened key 0 (payload_at place taken content))
-    sound-by failed held at chunk last sought number taken place content rest bytes well good within sound before true is =
-        let payload = payload_at place taken content in
-        rest-held opened key failed held at chunk last number rest good is
-        ∙ stretch-ext _ _ (sym (drop-append-le at chunk (behind opened key last number rest).bytes (within is))) refl
-        ∙ ap (from_place at) (held-reaches opened key law number last at chunk payload rest bytes well (sound.is_held is)
+  module _ (law : Shorter opened key) {R : Type 0} {read : Ghosts R} (place : Place) (cache : Cache) (source : Source R read)
+      (bytes : AreBytes (payload_from source).bytes) (well : (payload_delivers opened key 0 (payload_from source)).ends_well ≡ true)
+      (good : place.failed ≡ false) (within : place.held ≡ true → place.at ≤ length cache.first.piece.items)
+      (sound : IsSound opened key place cache source)
+      (before : place.held ≡ false → (read.rest source.inner ≡ from_place source.taken (payload_from source))
+      × (65552 * place.number < length (payload_from source).bytes)) where
+    sound-by : (h : Bool) → place.held ≡ h → rest_of opened key place cache (read.rest source.inner)
+        ≡ from_place (65536 * place.number + place.at) (payload_delivers opened key 0 (payload_from source))
+    sound-by true is =
+        let payload = payload_from source in
+        let rest = read.rest source.inner in
+        let chunk = cache.first.piece.items in
+        rest-held opened key place cache rest good is
+        ∙ stretch-ext _ _ (sym (drop-append-le place.at chunk (behind opened key cache.first.last place.number rest).bytes (within is))) refl
+        ∙ ap (from_place place.at) (held-reaches opened key law place.number cache.first.last place.at chunk payload rest bytes well (sound.is_held
+        is)
         (sound.is_past good is).ahead)
-        ∙ stretch-ext _ _ (drop-drop at (65536 * number) (payload_delivers opened key 0 payload).bytes) refl
-    sound-by failed held at chunk last sought number taken place content rest bytes well good within sound before false is =
-        let payload = payload_at place taken content in
+        ∙ stretch-ext _ _ (drop-drop place.at (65536 * place.number) (payload_delivers opened key 0 payload).bytes) refl
+    sound-by false is =
+        let payload = payload_from source in
         let there = before is in
-        rest-open opened key failed held at chunk last number rest good is
-        ∙ ap (λ s. from_place at (payload_delivers opened key number s)) (there.0 ∙ ap (λ n. from_place n payload) (sound.before good is).stood)
-        ∙ reaches-before opened key law number at payload bytes well (λ _. there.1)
+        rest-open opened key place cache (read.rest source.inner) good is
+        ∙ ap (λ s. from_place place.at (payload_delivers opened key place.number s))
+        (there.0 ∙ ap (λ n. from_place n payload) (sound.before good is).stood)
+        ∙ reaches-before opened key law place.number place.at payload bytes well (λ _. there.1)
 
     -- what stands from the place on
-    pub now-sound : (failed held : Bool) (at : ℕ) (chunk : List ℕ) (last sought : Bool) (number taken place : ℕ) (content rest : Stretch)
-        → AreBytes (payload_at place taken content).bytes →
-        (payload_delivers opened key 0 (payload_at place taken content)).ends_well ≡ true → failed ≡ false → (held ≡ true → at ≤ length chunk) →
-        IsSound opened key failed held at chunk last sought number taken place content rest →
-        (held ≡ false → (rest ≡ from_place taken (payload_at place taken content))
-        × (65552 * number < length (payload_at place taken content).bytes)) →
-        rest_of opened key failed held at chunk last number rest
-        ≡ from_place (65536 * number + at) (payload_delivers opened key 0 (payload_at place taken content))
-    now-sound failed held at chunk last sought number taken place content rest bytes well good within sound before =
-        sound-by failed held at chunk last sought number taken place content rest bytes well good within sound before held refl
+    pub now-sound : rest_of opened key place cache (read.rest source.inner)
+        ≡ from_place (65536 * place.number + place.at) (payload_delivers opened key 0 (payload_from source))
+    now-sound = sound-by place.held refl

@@ -15,12 +15,12 @@ has_last number (Some opened) = (opened.number == number) && opened.last
 
 -- one of the two is the chunk of this number, by the verdict on it
 abbrev pub HasOne : Cache → ℕ → Type 0
-HasOne cache number = ((cache.judged ≡ true) × (cache.number ≡ number)) ⊎ (has_number number cache.other ≡ true)
+HasOne cache number = ((cache.judged ≡ true) × (cache.first.number ≡ number)) ⊎ (has_number number cache.other ≡ true)
 
 -- and as the last
 abbrev pub HasLast : Cache → ℕ → Type 0
-HasLast cache number = ((cache.judged ≡ true) × (cache.number ≡ number) × (cache.last ≡ true)) ⊎ (has_last number cache.other ≡ true)
+HasLast cache number = ((cache.judged ≡ true) × (cache.first.number ≡ number) × (cache.first.last ≡ true)) ⊎ (has_last number cache.other ≡ true)
 
 -- the number of the chunk that was used last, where it is there
 abbrev pub last_used : Cache → Option ℕ
-last_used cache = cond cache.used (cond cache.judged (Some cache.number) None) (option_map (λ it. it.number) cache.other)
+last_used cache = cond cache.used (cond cache.judged (Some cache.first.number) None) (option_map (λ it. it.number) cache.other)

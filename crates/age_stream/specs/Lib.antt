@@ -10,6 +10,7 @@ pub mod Writing
 pub mod ReadingLemmas
 pub mod SendingLemmas
 pub mod WritingLemmas
+pub mod PrivateSource
 pub mod PrivateSteps
 pub mod PrivateCache
 pub mod PrivateKeeping

@@ -12,16 +12,16 @@ use Rattle.age_stream.specs.Cache.{HasOne, has_number, last_used}
 -- The first of them is the chunk at the place, which has a byte there or ends
 -- there. One that is held without the verdict on it is a full one, as the last.
 pub record IsAtChunk (number at : ℕ) (cache : Cache) : Type 0 where
-  pub in_chunk : at ≤ length cache.piece.items
-  pub small : length cache.piece.items ≤ 65536
+  pub in_chunk : at ≤ length cache.first.piece.items
+  pub small : length cache.first.piece.items ≤ 65536
   pub more : number < 2 ^ 44
-  pub full : cache.last ≡ false → length cache.piece.items ≡ 65536
-  pub first : cache.number ≡ number
-  pub unjudged : cache.judged ≡ false → IsUnjudged at cache.last cache.piece.items
+  pub full : cache.first.last ≡ false → length cache.first.piece.items ≡ 65536
+  pub first : cache.first.number ≡ number
+  pub unjudged : cache.judged ≡ false → IsUnjudged at cache.first.last cache.first.piece.items
 
 -- Both are chunks of the payload, by the verdict on them.
 pub record IsKept (opened : List ℕ → List ℕ → List ℕ → Option (List ℕ)) (key : List ℕ) (payload : Stretch) (cache : Cache) : Type 0 where
-  pub first : cache.judged ≡ true → IsHeld opened key payload cache.number cache.last 0 cache.piece.items
+  pub first : cache.judged ≡ true → IsHeld opened key payload cache.first.number cache.first.last 0 cache.first.piece.items
   pub other : (it : Opened) → cache.other ≡ Some it → IsHeld opened key payload it.number it.last 0 it.piece.items
 
 -- The text of this chunk was read.
@@ -38,8 +38,8 @@ pub record SameChunks (old new : Cache) : Type 0 where
 -- The chunk of this number was brought to the front, by so many openings as there were
 -- before and after. The one that was used last is there, and both are where none was opened.
 pub record Brings (number : ℕ) (old new : Cache) (before after : ℕ) : Type 0 where
-  pub first : (new.judged ≡ true) × (new.number ≡ number) × (new.used ≡ true)
+  pub first : (new.judged ≡ true) × (new.first.number ≡ number) × (new.used ≡ true)
   pub keeps_last : (b : ℕ) → last_used old ≡ Some b → HasOne new b
   pub keeps : has_number number old.other ≡ true → (b : ℕ) → HasOne old b → HasOne new b
-  pub middle : new.last ≡ false → after ≤ before + 1
+  pub middle : new.first.last ≡ false → after ≤ before + 1
   pub opened : before < 2 ^ 64 → (has_number number old.other ≡ true → ⊥) → one_more before ≤ after

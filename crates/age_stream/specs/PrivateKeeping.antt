@@ -1,12 +1,13 @@
 -- What the private steps of a reader of a payload keep of the reader that the payload comes from.
-use Rattle.std.specs.Prelude.{IsTrue, Result, ℕ, ◌&&◌, ◌≡◌, ◌≢◌, ◌⊎◌}
+use Rattle.std.specs.Prelude.{IsTrue, Result, ◌≡◌, ◌≢◌, ◌⊎◌}
 use Rattle.age_error.specs.Refusals.{IsDevice, IsInterruption}
 use Rattle.age_error.specs.declared.io.Error.{Error}
 use Rattle.age_error.specs.declared.io.Error.TheVariants.{AfterLast, BadEnd, OutOfMemory}
 use Rattle.age_io.specs.Cursor.{IsOutside, IsSeekRefusal, OrTooLong}
 use Rattle.age_io.specs.declared.traits.Read.{Ghosts}
 use Rattle.age_io.specs.Keeping.{KeepsReader}
-use Rattle.age_stream.specs.Reading.{payload_at}
+use Rattle.age_stream.specs.declared.source.Source.{Source}
+use Rattle.age_stream.specs.Reading.{payload_from, tells_from}
 use Rattle.age_stream.specs.Keeping.{IsPayloadRefusal, OwnOrInner}
 
 -- What it may say of a chunk by the chunk's own text.
@@ -31,8 +32,6 @@ pub record IsLost (error answer : Error) : Type 0 where
 
 -- The inner reader is the same, wherever it stands, and so is the payload that begins where it stood before the bytes that were taken. A refusal is
 -- of this kind, or the inner reader's.
-pub record KeepsPayload {R T : Type 0} (read : Ghosts R) (Own : Error → Type 0) (old : R) (old_taken : ℕ) (new : R) (new_taken : ℕ)
-    (result : Result T Error) : Type 0 where
-  pub inner : KeepsReader read (OwnOrInner read Own) old new result
-  pub payload : IsTrue (read.tells old && read.steady old) →
-      payload_at (read.place new) new_taken (read.content new) ≡ payload_at (read.place old) old_taken (read.content old)
+pub record KeepsPayload {R T : Type 0} {read : Ghosts R} (Own : Error → Type 0) (old new : Source R read) (result : Result T Error) : Type 0 where
+  pub inner : KeepsReader read (OwnOrInner read Own) old.inner new.inner result
+  pub payload : IsTrue (tells_from old) → payload_from new ≡ payload_from old

@@ -8,20 +8,19 @@ use Rattle.age_io.specs.declared.traits.Read.{Ghosts}
 use Rattle.age_io.specs.Cursor.{IsOutside}
 use Rattle.age_io.specs.Stretch.{from_place, IsCleanEnd, IsFault}
 use Rattle.age_io.specs.Reading.{Delivers, EndsEarly, IsQuiet, most_faults}
-use Rattle.age_io.specs.Turns.{GivesTried}
 use Rattle.age_stream.specs.declared.reader.StreamReader.{StreamReader}
 use Rattle.age_v1.specs.PayloadAnswers.{Gives, RefusesRead, RefusesItself, StandAt, StopsNear, IsGoodEnd}
 use Rattle.age_stream.specs.Cache.{last_used, HasOne}
 use Rattle.age_stream.specs.Reader.{payload_of, place_of, plain_rest_of, tells_of, wanted_of, HasEnd, IsHolding, IsAfterLast}
 use Rattle.age_v1.specs.Payload.{chunk_nonce}
 use Rattle.age_stream.specs.Naming.{RefusedOnTheWay}
-use Rattle.age_stream.specs.Reading.{spare, TookFromInner}
+use Rattle.age_stream.specs.Reading.{spare}
 use Rattle.age_v1.specs.DeliveredPayload.{text_at}
 
 module _ {S R : Type 0} {suite : SuiteGhosts S} {read : Ghosts R} where
   -- what is said of a refusal that is neither for want of memory nor after a fault of the device
   abbrev pub Quietly : (old new : StreamReader S R suite read) → Error → Type 0 → Type 0
-  Quietly old new e Said = e ≢ OutOfMemory → IsQuiet (read.faults old.inner) (read.faults new.inner) → Said
+  Quietly old new e Said = e ≢ OutOfMemory → IsQuiet (read.faults old.source.inner) (read.faults new.source.inner) → Said
 
   -- and of that of a reader that tells its bytes
   abbrev pub Told : (old new : StreamReader S R suite read) → Error → Type 0 → Type 0
@@ -29,43 +28,36 @@ module _ {S R : Type 0} {suite : SuiteGhosts S} {read : Ghosts R} where
 
   -- the inner reader was asked, and nothing else changed
   pub record Stays (old new : StreamReader S R suite read) : Type 0 where
-    pub number : new.number ≡ old.number
-    pub at : new.at ≡ old.at
-    pub held : new.held ≡ old.held
+    pub number : new.place.number ≡ old.place.number
+    pub at : new.place.at ≡ old.place.at
+    pub held : new.place.held ≡ old.place.held
     pub cache : new.cache ≡ old.cache
     pub key : new.key ≡ old.key
     pub opens : new.opens ≡ old.opens
 
-  -- So many bytes of the inner reader were taken, which are in front of the room for a sealed text.
-  pub record TakesBytes (asked : ℕ) (old new : StreamReader S R suite read) (count : ℕ) : Type 0 where
-    pub unspent : read.faults new.inner < most_faults
-    pub most : count ≤ asked
-    pub turns : GivesTried read asked (take count new.sealed.items) old.inner new.inner
-    pub took : IsTrue (read.tells old.inner) → TookFromInner asked (read.rest old.inner) (read.rest new.inner) (take count new.sealed.items)
-    pub moves : IsTrue (tells_of old) → (read.place new.inner ≡ read.place old.inner + count) × (new.taken ≡ old.taken + count)
-
   -- it stands at the same place
   pub record StaysAt (old new : StreamReader S R suite read) : Type 0 where
     pub key : new.key ≡ old.key
-    pub sought : new.sought ≡ old.sought
+    pub sought : new.place.sought ≡ old.place.sought
     pub place : place_of new ≡ place_of old
 
   -- A chunk is held that has a byte at the place, or is the last, which has none there. What can still be delivered is the same.
   pub record HasOpenedAt (old new : StreamReader S R suite read) : Type 0 where
-    pub good : (new.failed ≡ false) × (new.held ≡ true)
+    pub good : (new.place.failed ≡ false) × (new.place.held ≡ true)
     pub rest : IsTrue (tells_of old) → plain_rest_of new ≡ plain_rest_of old
-    pub end : IsTrue (tells_of old) → new.at ≡ length new.cache.piece.items → IsCleanEnd (plain_rest_of old)
-    pub ended : IsTrue (tells_of old) → new.at ≡ length new.cache.piece.items → IsGoodEnd suite.seal_of old.key (payload_of old) (place_of old)
-    pub inner_end : IsTrue (tells_of old) → (read.rest new.inner).ends_well ≡ (read.rest old.inner).ends_well
+    pub end : IsTrue (tells_of old) → new.place.at ≡ length new.cache.first.piece.items → IsCleanEnd (plain_rest_of old)
+    pub ended : IsTrue (tells_of old) → new.place.at ≡ length new.cache.first.piece.items
+        → IsGoodEnd suite.seal_of old.key (payload_of old) (place_of old)
+    pub inner_end : IsTrue (tells_of old) → (read.rest new.source.inner).ends_well ≡ (read.rest old.source.inner).ends_well
     pub opened : (IsHolding old → ⊥) → one_more old.opens ≤ new.opens
     pub keeps_last : (b : ℕ) → last_used old.cache ≡ Some b → HasOne new.cache b
     pub has : IsHolding old → (b : ℕ) → HasOne old.cache b → HasOne new.cache b
 
   -- The chunk at the place is refused for what it is, or the inner reader refused before it was whole. The reader has failed.
   pub record RefusesAtPlace (old new : StreamReader S R suite read) (e : Error) : Type 0 where
-    pub fails : new.failed ≡ true
+    pub fails : new.place.failed ≡ true
     pub cause : Told old new e (IsFault (plain_rest_of old))
-    pub refused : Told old new e (RefusesItself suite.seal_of old.key (payload_of old) (read.rest old.inner) (wanted_of old) (place_of old) e)
+    pub refused : Told old new e (RefusesItself suite.seal_of old.key (payload_of old) (read.rest old.source.inner) (wanted_of old) (place_of old) e)
 
   -- how often it opens a chunk: at most twice, not at all where it has the chunk,
   -- and no more often than there are chunks up to the place that it comes to
@@ -73,17 +65,18 @@ module _ {S R : Type 0} {suite : SuiteGhosts S} {read : Ghosts R} where
     pub counts : old.opens ≤ new.opens
     pub most : new.opens ≤ old.opens + 2
     pub none : IsHolding old → new.opens ≡ old.opens
-    pub spared : OnOk result (new.opens + spare new.held new.cache.last + old.number ≤ old.opens + spare old.held old.cache.last + new.number)
-    pub spent : new.opens + old.number ≤ old.opens + spare old.held old.cache.last + new.number
+    pub spared : OnOk result (new.opens + spare new.place.held new.cache.first.last + old.place.number ≤ old.opens + spare old.place.held
+        old.cache.first.last +
+        new.place.number)
+    pub spent : new.opens + old.place.number ≤ old.opens + spare old.place.held old.cache.first.last + new.place.number
 
   -- After a middle chunk that was given whole the place is the front of the next. Of the inner reader, the chunks and what can still be delivered
   -- nothing changes.
   pub record PassesOn (old new : StreamReader S R suite read) : Type 0 where
-    pub good : new.failed ≡ false
-    pub inner : new.inner ≡ old.inner
-    pub taken : new.taken ≡ old.taken
+    pub good : new.place.failed ≡ false
+    pub source : new.source ≡ old.source
     pub key : new.key ≡ old.key
-    pub sought : new.sought ≡ old.sought
+    pub sought : new.place.sought ≡ old.place.sought
     pub cache : new.cache ≡ old.cache
     pub opens : new.opens ≡ old.opens
     pub place : place_of new ≡ place_of old
@@ -92,37 +85,36 @@ module _ {S R : Type 0} {suite : SuiteGhosts S} {read : Ghosts R} where
 
   -- After the last chunk there is a clean end.
   pub record EndsClean (old new : StreamReader S R suite read) : Type 0 where
-    pub good : new.failed ≡ false
+    pub good : new.place.failed ≡ false
     pub end : IsTrue (tells_of old) → IsCleanEnd (plain_rest_of old) × (plain_rest_of new ≡ plain_rest_of old)
     pub ended : IsTrue (tells_of old) → IsGoodEnd suite.seal_of old.key (payload_of old) (place_of old)
-    pub inner_end : IsTrue (tells_of old) → (read.rest new.inner).ends_well ≡ (read.rest old.inner).ends_well
+    pub inner_end : IsTrue (tells_of old) → (read.rest new.source.inner).ends_well ≡ (read.rest old.source.inner).ends_well
 
   -- Bytes follow the last chunk, or the inner reader refused in place of its end. The reader has failed.
   pub record RefusesPastLast (old new : StreamReader S R suite read) (e : Error) : Type 0 where
-    pub fails : new.failed ≡ true
+    pub fails : new.place.failed ≡ true
     pub cause : Told old new e (IsFault (plain_rest_of old))
-    pub refused : Told old new e (RefusesRead suite.seal_of old.key (payload_of old) (read.rest old.inner) (wanted_of old) (place_of old) e)
-    pub after_last : Told old new e (EndsEarly 1 (read.rest old.inner) ⊎ (e ≡ AfterLast))
+    pub refused : Told old new e (RefusesRead suite.seal_of old.key (payload_of old) (read.rest old.source.inner) (wanted_of old) (place_of old) e)
+    pub after_last : Told old new e (EndsEarly 1 (read.rest old.source.inner) ⊎ (e ≡ AfterLast))
 
   -- Bytes of the chunk that is held were given.
   pub record GivesHeld (old new : StreamReader S R suite read) : Type 0 where
-    pub good : new.failed ≡ false
-    pub inner : new.inner ≡ old.inner
-    pub taken : new.taken ≡ old.taken
+    pub good : new.place.failed ≡ false
+    pub source : new.source ≡ old.source
     pub key : new.key ≡ old.key
-    pub sought : new.sought ≡ old.sought
+    pub sought : new.place.sought ≡ old.place.sought
     pub opens : new.opens ≡ old.opens
-    pub number : new.number ≡ old.number
-    pub held : new.held ≡ old.held
-    pub last : new.cache.last ≡ old.cache.last
+    pub number : new.place.number ≡ old.place.number
+    pub held : new.place.held ≡ old.place.held
+    pub last : new.cache.first.last ≡ old.cache.first.last
     pub has : (b : ℕ) → HasOne old.cache b → HasOne new.cache b
 
   -- where a read leads: as far as it gave bytes, and nowhere if it was refused, when it has failed
   pub record Moves (old new : StreamReader S R suite read) (result : Result ℕ Error) : Type 0 where
     pub key : new.key ≡ old.key
-    pub sought : new.sought ≡ old.sought
-    pub good : OnOk result (new.failed ≡ false)
-    pub fails : OnErr result (new.failed ≡ true)
+    pub sought : new.place.sought ≡ old.place.sought
+    pub good : OnOk result (new.place.failed ≡ false)
+    pub fails : OnErr result (new.place.failed ≡ true)
     pub placed : IfOk result (λ n. place_of new ≡ place_of old + n)
     pub stayed : OnErr result (place_of new ≡ place_of old)
 
@@ -131,19 +123,19 @@ module _ {S R : Type 0} {suite : SuiteGhosts S} {read : Ghosts R} where
     pub gives : IsTrue (tells_of old) → IfOk result
         (λ n. 0 < n → Gives suite.seal_of old.key (payload_of old) (place_of old) (length buf) (take n new_buf))
     pub ended : IsTrue (tells_of old) → IfOk result (λ n. n ≡ 0 → IsGoodEnd suite.seal_of old.key (payload_of old) (place_of old))
-    pub inner_end : IsTrue (tells_of old) → OnOk result ((read.rest new.inner).ends_well ≡ (read.rest old.inner).ends_well)
+    pub inner_end : IsTrue (tells_of old) → OnOk result ((read.rest new.source.inner).ends_well ≡ (read.rest old.source.inner).ends_well)
     pub refused : IsTrue (tells_of old) → IfErr result (λ e.
-        Quietly old new e (RefusesRead suite.seal_of old.key (payload_of old) (read.rest old.inner) (wanted_of old) (place_of old) e))
+        Quietly old new e (RefusesRead suite.seal_of old.key (payload_of old) (read.rest old.source.inner) (wanted_of old) (place_of old) e))
     pub by_itself : IsTrue (tells_of old) → (IsAfterLast old → ⊥) → IfErr result (λ e.
-        Quietly old new e (RefusesItself suite.seal_of old.key (payload_of old) (read.rest old.inner) (wanted_of old) (place_of old) e))
+        Quietly old new e (RefusesItself suite.seal_of old.key (payload_of old) (read.rest old.source.inner) (wanted_of old) (place_of old) e))
     pub after_last : IsTrue (tells_of old) → IsAfterLast old
-        → IfErr result (λ e. Quietly old new e (EndsEarly 1 (read.rest old.inner) ⊎ (e ≡ AfterLast)))
+        → IfErr result (λ e. Quietly old new e (EndsEarly 1 (read.rest old.source.inner) ⊎ (e ≡ AfterLast)))
     pub beyond : IfOk result (λ n. drop n new_buf ≡ drop n buf)
     pub untouched : OnErr result (new_buf ≡ buf)
 
   -- which of the opened chunks a read has then
   pub record ReadsChunks (old new : StreamReader S R suite read) (result : Result ℕ Error) : Type 0 where
-    pub held : OnOk result (new.held ≡ true)
+    pub held : OnOk result (new.place.held ≡ true)
     pub at_end : IsAfterLast old → new.opens ≡ old.opens
     pub opened : (IsHolding old → ⊥) → IfOk result (λ n. 0 < n → one_more old.opens ≤ new.opens)
     pub uses : IfOk result (λ n. 0 < n → last_used new.cache ≡ Some (place_of old / 65536))
@@ -163,32 +155,27 @@ module _ {S R : Type 0} {suite : SuiteGhosts S} {read : Ghosts R} where
 
   -- Bytes were read until so many had come or the end was found.
   pub record ReadsFull (old new : StreamReader S R suite read) (asked : ℕ) (given : List ℕ) (count : ℕ) : Type 0 where
-    pub good : new.failed ≡ false
+    pub good : new.place.failed ≡ false
     pub bytes : IsTrue (tells_of old) → Delivers given (plain_rest_of old) (plain_rest_of new)
     pub stored : IsTrue (tells_of old) → StandAt suite.seal_of old.key (payload_of old).bytes (place_of old) given
     pub end : IsTrue (tells_of old) → count < asked → IsCleanEnd (plain_rest_of new)
     pub ended : IsTrue (tells_of old) → count < asked → IsGoodEnd suite.seal_of old.key (payload_of old) (place_of new)
-    pub inner_end : IsTrue (tells_of old) → (read.rest new.inner).ends_well ≡ (read.rest old.inner).ends_well
+    pub inner_end : IsTrue (tells_of old) → (read.rest new.source.inner).ends_well ≡ (read.rest old.source.inner).ends_well
 
   -- A read was refused before so many had come. The reader has failed.
   pub record RefusesFull (old new : StreamReader S R suite read) (asked count : ℕ) (e : Error) : Type 0 where
-    pub fails : new.failed ≡ true
+    pub fails : new.place.failed ≡ true
     pub short : count < asked
     pub cause : Told old new e ((plain_rest_of old).ends_well ≡ false)
-    pub refused : Told old new e ((read.rest old.inner).ends_well ≡ true → StopsNear suite.seal_of old.key (payload_of old).bytes (place_of new) e)
+    pub refused : Told old new e ((read.rest old.source.inner).ends_well ≡ true
+        → StopsNear suite.seal_of old.key (payload_of old).bytes (place_of new) e)
 
   -- ---- the steps of a seek
-
-  -- The inner reader stands at a place of the payload.
-  pub record IsPlaced (old new : StreamReader S R suite read) (place : ℕ) : Type 0 where
-    pub unspent : read.faults new.inner < most_faults
-    pub taken : IsTrue (tells_of old) → new.taken ≡ place
-    pub rest : IsTrue (tells_of old) → read.rest new.inner ≡ from_place place (payload_of old)
 
   -- A step of a seek is refused, and not for its target. The reader has failed
   -- at the same place. A payload that ends well is a cause only as is said here.
   pub record RefusesStep (old new : StreamReader S R suite read) (Cause : Error → Type 0) (e : Error) : Type 0 where
-    pub fails : new.failed ≡ true
+    pub fails : new.place.failed ≡ true
     pub place : place_of new ≡ place_of old
     pub refusal : IsOutside e → ⊥
     pub cause : IsTrue (tells_of old) → IsTrue (payload_of old).ends_well → Quietly old new e (Cause e)
@@ -201,31 +188,31 @@ module _ {S R : Type 0} {suite : SuiteGhosts S} {read : Ghosts R} where
   -- chunk doesn't open, or no memory is there for it, or the reader below refused.
   abbrev pub SaysWhyEnd : (Error → Type 0) → (old new : StreamReader S R suite read) → ℕ → Error → Type 0
   SaysWhyEnd seek_refuses old new number e =
-      (IsTrue (tells_of old) → IsNoLast old number e) ⊎ (e ≡ OutOfMemory) ⊎ RefusedOnTheWay read seek_refuses new.inner e
+      (IsTrue (tells_of old) → IsNoLast old number e) ⊎ (e ≡ OutOfMemory) ⊎ RefusedOnTheWay read seek_refuses new.source.inner e
 
   -- It stands at a place before the end, and holds the chunk there if it has that. One that had failed has none.
   pub record Enters (old new : StreamReader S R suite read) (size place : ℕ) (was_failed : Bool) : Type 0 where
-    pub good : new.failed ≡ false
+    pub good : new.place.failed ≡ false
     pub arrives : place_of new ≡ place
     pub before : IsAfterLast new → ⊥
-    pub unspent : read.faults new.inner < most_faults
-    pub rest : IsTrue (tells_of old) → read.rest new.inner ≡ from_place new.taken (payload_of old)
-    pub more : new.held ≡ false → 65552 * new.number < size
+    pub unspent : read.faults new.source.inner < most_faults
+    pub rest : IsTrue (tells_of old) → read.rest new.source.inner ≡ from_place new.source.taken (payload_of old)
+    pub more : new.place.held ≡ false → 65552 * new.place.number < size
     pub has : was_failed ≡ false → (b : ℕ) → HasOne old.cache b → HasOne new.cache b
     pub same_last : was_failed ≡ false → last_used new.cache ≡ last_used old.cache
-    pub none : was_failed ≡ true → (new.held ≡ false) × ((b : ℕ) → HasOne new.cache b → ⊥)
+    pub none : was_failed ≡ true → (new.place.held ≡ false) × ((b : ℕ) → HasOne new.cache b → ⊥)
     pub finds : IsTrue (tells_of old) → was_failed ≡ false → HasOne old.cache (place / 65536)
-        → (new.held ≡ true) × (new.at < length new.cache.piece.items)
+        → (new.place.held ≡ true) × (new.place.at < length new.cache.first.piece.items)
 
   -- It stands at the end of the plaintext, of this length, and holds the last chunk, of this number, as the last.
   pub record EntersEnd (old new : StreamReader S R suite read) (number len : ℕ) : Type 0 where
-    pub good : (new.failed ≡ false) × (new.held ≡ true) × (new.cache.last ≡ true) × (new.number ≡ number)
+    pub good : (new.place.failed ≡ false) × (new.place.held ≡ true) × (new.cache.first.last ≡ true) × (new.place.number ≡ number)
     pub arrives : IsTrue (tells_of old) → place_of new ≡ len
-    pub inner_end : IsTrue (tells_of old) → (read.rest new.inner).ends_well ≡ (payload_of old).ends_well
+    pub inner_end : IsTrue (tells_of old) → (read.rest new.source.inner).ends_well ≡ (payload_of old).ends_well
 
   -- which of the opened chunks it has after the last one was opened
   pub record KeepsBesideLast (old new : StreamReader S R suite read) (number : ℕ) : Type 0 where
-    pub used : (new.cache.used ≡ true) × (new.cache.number ≡ number)
+    pub used : (new.cache.used ≡ true) × (new.cache.first.number ≡ number)
     pub had : (b : ℕ) → HasOne new.cache b → (b ≡ number) ⊎ HasOne old.cache b
     pub keeps_last : (b : ℕ) → last_used old.cache ≡ Some b → HasOne new.cache b
 

@@ -6,6 +6,7 @@ use Rattle.std.proofs.lemmas.List.Elements.{All-drop}
 use Rattle.std.proofs.lemmas.Bool.{cases_lt, true≢false}
 use Rattle.std.proofs.lemmas.Bool.Decides.{eqb_tells}
 use Rattle.age_error.specs.Bytes.{AreBytes}
+use Rattle.age_io.specs.declared.traits.Read.{Ghosts}
 use Rattle.age_io.specs.Stretch.{Stretch, nothing, from_place, stretch-ext}
 use Rattle.age_io.specs.Reading.{StandsIn}
 use Rattle.age_v1.specs.Payload.{chunk_nonce}
@@ -14,7 +15,10 @@ use Rattle.age_v1.specs.DeliveredPayload.{chunk_of, prepend, payload_delivers, t
 use Rattle.age_v1.proofs.DeliveredChunks.{delivered-chunk}
 use Rattle.age_v1.proofs.TextFronts.{text-most, text-all, text-left}
 use Rattle.age_v1.proofs.WellEndedPayloads.{accepted, onward, well-length, well-single, delivered-nothing, delivered-none}
-use Rattle.age_stream.specs.Reading.{payload_at, behind, rest_of, IsAtFullEnd, IsHeld, IsInside, IsSound}
+use Rattle.age_stream.specs.declared.cache.Cache.{Cache}
+use Rattle.age_stream.specs.declared.place.Place.{Place}
+use Rattle.age_stream.specs.declared.source.Source.{Source}
+use Rattle.age_stream.specs.Reading.{payload_at, payload_from, behind, rest_of, tells_from, IsAtFullEnd, IsHeld, IsInside, IsSound}
 
 pub and-left : (a b : Bool) → IsTrue (a && b) → IsTrue a
 and-left true b is = refl
@@ -113,64 +117,72 @@ module _ (opened : List ℕ → List ℕ → List ℕ → Option (List ℕ)) (ke
   nothing-from : (at : ℕ) → from_place at nothing ≡ nothing
   nothing-from at = stretch-ext (from_place at nothing) nothing (drop_all at [] (omega arith)) refl
 
-  reaches_of : (failed held : Bool) (at : ℕ) (chunk : List ℕ) (last sought : Bool) (number taken place : ℕ) (content rest : Stretch) →
-      AreBytes (payload_at place taken content).bytes → (payload_delivers opened key 0 (payload_at place taken content)).ends_well ≡ true →
-      (held ≡ true → at ≤ length chunk) → IsSound opened key failed held at chunk last sought number taken place content rest →
-      ((rest ≡ from_place taken (payload_at place taken content)) ⊎ (rest ≡ nothing)) →
-      (rest_of opened key failed held at chunk last number rest
-      ≡ from_place (65536 * number + at) (payload_delivers opened key 0 (payload_at place taken content)))
-      ⊎ (rest_of opened key failed held at chunk last number rest ≡ nothing)
-  unfolding rest_of
-  reaches_of true held at chunk last sought number taken place content rest bytes well in_chunk sound inner = inr refl
-  reaches_of false true at chunk last sought number taken place content rest bytes well in_chunk sound inner =
-      let payload = payload_at place taken content in
-      inl (drop-prepended at chunk (behind opened key last number rest) (in_chunk refl)
-      ∙ ap (from_place at) (held-reaches number last at chunk payload rest bytes well (sound.is_held refl) (sound.is_past refl refl).ahead)
-      ∙ stretch-ext _ _ (drop-drop at (65536 * number) (payload_delivers opened key 0 payload).bytes) refl)
-  reaches_of false false at chunk last sought number taken place content rest bytes well in_chunk sound (inl is) =
-      let payload = payload_at place taken content in
-      let before = sound.before refl refl in
-      let there : rest ≡ from_place (65552 * number) payload = is ∙ ap (λ n. from_place n payload) before.stood in
-      elim (cases_lt (65552 * number) (length payload.bytes)) [
-        | inl more ↦ inl (ap (λ s. from_place at (payload_delivers opened key number s)) there
-            ∙ reaches-before number at payload bytes well (λ _. more))
-        | inr past ↦ elim (cases_lt 0 number) [
-          | inl some ↦
-              let empty : drop (65552 * number) payload.bytes ≡ [] = drop_all (65552 * number) payload.bytes past in
-              inr (ap (λ s. from_place at (payload_delivers opened key number s))
-              (there ∙ stretch-ext _ (record { bytes = []; ends_well = payload.ends_well }) empty refl)
-              ∙ ap (from_place at) (delivered-none opened key number payload.ends_well) ∙ nothing-from at)
-          | inr zero ↦ inl (ap (λ s. from_place at (payload_delivers opened key number s)) there
-              ∙ reaches-before number at payload bytes well (λ s. absurd (omega arith)))
-        ]
-      ]
-  reaches_of false false at chunk last sought number taken place content rest bytes well in_chunk sound (inr is) =
-      inr (rw is (ap (from_place at) (delivered-nothing opened key number) ∙ nothing-from at))
-
-  -- where a payload ends well, its reader stands in the plaintext
-  pub stream_stands : (failed held : Bool) (at : ℕ) (chunk : List ℕ) (last sought : Bool) (number taken place : ℕ) (content rest : Stretch)
-      → AreBytes content.bytes →
-      at ≤ 65536 → (held ≡ true → at ≤ length chunk) → IsSound opened key failed held at chunk last sought number taken place content rest →
-      StandsIn content place rest → (payload_delivers opened key 0 (payload_at place taken content)).ends_well ≡ true →
-      StandsIn (payload_delivers opened key 0 (payload_at place taken content)) (65536 * number + at)
-      (rest_of opened key failed held at chunk last number rest)
-  stream_stands failed held at chunk last sought number taken place content rest bytes small in_chunk sound stands well =
-      let payload = payload_at place taken content in
-      let all : AreBytes payload.bytes = All-drop (λ x. x < 2 ^ 8) (place - taken) content.bytes bytes in
-      record {
-        within = within-by number at payload all well small sound.inside;
-        reaches = reaches_of failed held at chunk last sought number taken place content rest all well in_chunk sound
-            (taken-rest content rest place taken stands sound.fits);
-      }
-
   -- a reader over a spent one has failed, or finds that out at its next read
-  pub stream_spent : (failed held : Bool) (at : ℕ) (chunk : List ℕ) (last : Bool) (number : ℕ) (rest : Stretch) →
-      (failed ≡ false → held ≡ true → ⊥) → rest ≡ nothing → rest_of opened key failed held at chunk last number rest ≡ nothing
+  pub stream_spent : (place : Place) (cache : Cache) (rest : Stretch) → (place.failed ≡ false → place.held ≡ true → ⊥) → rest ≡ nothing
+      → rest_of opened key place cache rest ≡ nothing
   unfolding rest_of
-  stream_spent true held at chunk last number rest unspent gone = refl
-  stream_spent false true at chunk last number rest unspent gone = absurd (unspent refl refl)
-  stream_spent false false at chunk last number rest unspent gone =
-      rw gone (ap (from_place at) (delivered-nothing opened key number) ∙ nothing-from at)
+  stream_spent place cache rest unspent gone = by place.failed place.held refl refl
+    where
+      by : (f h : Bool) → place.failed ≡ f → place.held ≡ h → rest_of opened key place cache rest ≡ nothing
+      by true h failed held = rw failed refl
+      by false true good held = absurd (unspent good held)
+      by false false good shut =
+          rw (good, shut, gone) (ap (from_place place.at) (delivered-nothing opened key place.number) ∙ nothing-from place.at)
+
+  module _ {R : Type 0} {read : Ghosts R} (place : Place) (cache : Cache) (source : Source R read) where
+    reaches-by : AreBytes (payload_from source).bytes → (payload_delivers opened key 0 (payload_from source)).ends_well ≡ true →
+        (place.held ≡ true → place.at ≤ length cache.first.piece.items) → IsSound opened key place cache source →
+        ((read.rest source.inner ≡ from_place source.taken (payload_from source)) ⊎ (read.rest source.inner ≡ nothing)) →
+        (f h : Bool) → place.failed ≡ f → place.held ≡ h →
+        (rest_of opened key place cache (read.rest source.inner)
+        ≡ from_place (65536 * place.number + place.at) (payload_delivers opened key 0 (payload_from source)))
+        ⊎ (rest_of opened key place cache (read.rest source.inner) ≡ nothing)
+    unfolding rest_of
+    reaches-by bytes well in_chunk sound inner true h failed held = inr (rw failed refl)
+    reaches-by bytes well in_chunk sound inner false true good held =
+        let payload = payload_from source in
+        let rest = read.rest source.inner in
+        inl (rw (good, held) (drop-prepended place.at cache.first.piece.items (behind opened key cache.first.last place.number rest) (in_chunk held)
+        ∙ ap (from_place place.at) (held-reaches place.number cache.first.last place.at cache.first.piece.items payload rest bytes well
+        (sound.is_held held) (sound.is_past good held).ahead)
+        ∙ stretch-ext _ _ (drop-drop place.at (65536 * place.number) (payload_delivers opened key 0 payload).bytes) refl))
+    reaches-by bytes well in_chunk sound (inl is) false false good shut =
+        let payload = payload_from source in
+        let number = place.number in
+        let before = sound.before good shut in
+        let there : read.rest source.inner ≡ from_place (65552 * place.number) payload = is ∙ ap (λ n. from_place n payload) before.stood in
+        elim (cases_lt (65552 * place.number) (length payload.bytes)) [
+          | inl more ↦ inl (rw (good, shut) (ap (λ s. from_place place.at (payload_delivers opened key place.number s)) there
+              ∙ reaches-before place.number place.at payload bytes well (λ _. more)))
+          | inr past ↦ elim (cases_lt 0 place.number) [
+            | inl some ↦
+                let empty : drop (65552 * place.number) payload.bytes ≡ [] = drop_all (65552 * place.number) payload.bytes past in
+                inr (rw (good, shut) (ap (λ s. from_place place.at (payload_delivers opened key place.number s))
+                (there ∙ stretch-ext _ (record { bytes = []; ends_well = payload.ends_well }) empty refl)
+                ∙ ap (from_place place.at) (delivered-none opened key place.number payload.ends_well) ∙ nothing-from place.at))
+            | inr zero ↦ inl (rw (good, shut) (ap (λ s. from_place place.at (payload_delivers opened key place.number s)) there
+                ∙ reaches-before place.number place.at payload bytes well (λ s. absurd (omega arith))))
+          ]
+        ]
+    reaches-by bytes well in_chunk sound (inr is) false false good shut =
+        inr (rw (good, shut, is) (ap (from_place place.at) (delivered-nothing opened key place.number) ∙ nothing-from place.at))
+
+    -- where a payload ends well, its reader stands in the plaintext
+    pub stream_stands : IsTrue (tells_from source) → AreBytes (read.content source.inner).bytes →
+        (place.held ≡ true → place.at ≤ length cache.first.piece.items) → IsSound opened key place cache source →
+        StandsIn (read.content source.inner) (read.place source.inner) (read.rest source.inner) →
+        (payload_delivers opened key 0 (payload_from source)).ends_well ≡ true →
+        StandsIn (payload_delivers opened key 0 (payload_from source)) (65536 * place.number + place.at)
+        (rest_of opened key place cache (read.rest source.inner))
+    stream_stands told bytes in_chunk sound stands well =
+        let all : AreBytes (payload_from source).bytes =
+        All-drop (λ x. x < 2 ^ 8) (read.place source.inner - source.taken) (read.content source.inner).bytes bytes in
+        record {
+          within = within-by place.number place.at (payload_from source) all well place.offset sound.inside;
+          reaches = reaches-by all well in_chunk sound
+              (taken-rest (read.content source.inner) (read.rest source.inner) (read.place source.inner) source.taken stands (source.fits told))
+              place.failed place.held refl refl;
+        }
 
 pub both-true : (a b : Bool) → IsTrue a → IsTrue b → IsTrue (a && b)
 both-true true b p q = q

@@ -16,8 +16,8 @@ impl<S: Suite, R: Read> StreamReader<S, R> {
 
     // Reads until the buffer is full or the end. `filled` says how many bytes were read, also after a refusal.
     fn read_full(&mut self, buf: &mut [u8], filled: &mut usize) -> Result<(), Error>
-        requires good { self.old.failed ≡ false }
-        ensures keeps { KeepsPayload ⟦<R as Read>⟧ (stops_of self.old) self.old.inner self.old.taken self.new.inner self.new.taken result }
+        requires good { self.old.place.failed ≡ false }
+        ensures keeps { KeepsPayload (stops_of self.old) self.old.source self.new.source result }
         ensures count { filled.new ≤ length buf.new }
         ensures moves { (key_of self.new ≡ key_of self.old) × (place_of self.new ≡ place_of self.old + filled.new) }
         ensures reads { OnOk result (ReadsFull self.old self.new (length buf.new) (take filled.new buf.new) filled.new) }
@@ -28,15 +28,11 @@ impl<S: Suite, R: Read> StreamReader<S, R> {
     {
         *filled = 0;
         'reads: while *filled < buf.len() {
-            match self.read_on(&mut buf[*filled..]) {
-                Err(e) => return Err(e),
-                Ok(n) => {
-                    if n == 0 {
-                        return Ok(());
-                    }
-                    *filled += n;
-                }
+            let n = self.read_on(&mut buf[*filled..])?;
+            if n == 0 {
+                return Ok(());
             }
+            *filled += n;
         }
         Ok(())
     }
@@ -66,15 +62,9 @@ impl<S: Suite, R: Seek> StreamReader<S, R> {
         ensures opens { OpensAt self.old self.new (length buf.new) }
         ensures chunks { KeepsAt self.old self.new to (length buf.new) result }
     {
-        match Seek::seek(self, to) {
-            Err(e) => Err(e),
-            Ok(_start) => {
-                let mut filled = 0;
-                match self.read_full(buf, &mut filled) {
-                    Err(e) => Err(e),
-                    Ok(()) => Ok(filled),
-                }
-            }
-        }
+        let _start = Seek::seek(self, to)?;
+        let mut filled = 0;
+        self.read_full(buf, &mut filled)?;
+        Ok(filled)
     }
 }

@@ -3,8 +3,6 @@ ghost use Rattle.std.specs.Prelude.{◌≡◌, ℕ, ◌≤◌, ◌<◌, ◌⊎�
 ghost use Rattle.age_error.specs.declared.io.Error.TheVariants.{OutOfMemory};
 ghost use Rattle.age_io.specs.Stretch.{Stretch};
 ghost use Rattle.age_v1.specs.DeliveredPayload.{chunk_of};
-ghost use Rattle.age_stream.specs.PrivateKeeping.{IsChunkRefusal};
-ghost use Rattle.age_stream.specs.Reading.{IsHeld};
 ghost use Rattle.age_stream.specs.Wholeness.{IsChunkSize};
 ghost use Rattle.age_stream.specs.PrivateWholeness.{OpensTwice};
 
@@ -23,25 +21,34 @@ pub(crate) struct Opened {
     ghost whole: { IsChunkSize number last piece.items },
 }
 
+impl Opened {
+    // None yet.
+    fn none(alloc: Global) -> Opened {
+        Opened {
+            number: 0,
+            piece: Vec::new(alloc),
+            last: true,
+        }
+    }
+}
+
 /// At most two chunks that were opened.
 #[derive(Drop)]
 pub(crate) struct Cache {
-    // The plaintext of the chunk of this number, and whether that was opened as the last.
-    pub(crate) number: u64,
-    pub(crate) piece: Vec<u8>,
-    pub(crate) last: bool,
-    // Whether that is by the verdict on it. A seek to the end takes a full chunk as the last without one.
+    // One of them, and whether it is there by the verdict on it. A seek to the end takes a full chunk as the last without one.
+    pub(crate) first: Opened,
     pub(crate) judged: bool,
     // Another one, and whether the first was used after it.
     pub(crate) other: Option<Opened>,
     pub(crate) used: bool,
-    ghost whole: { judged ≡ true → IsChunkSize number last piece.items },
 }
 
 impl Cache {
     ghost use Rattle.age_stream.specs.declared.cache.Opened.{Opened};
     ghost use Rattle.age_stream.specs.Cache.{has_number, has_last, last_used, HasLast, HasOne};
     ghost use Rattle.age_stream.specs.PrivateCache.{Brings, IsKept, IsText, SameChunks};
+    ghost use Rattle.age_stream.specs.PrivateKeeping.{IsChunkRefusal};
+    ghost use Rattle.age_stream.specs.Reading.{IsHeld};
 
     // Whether it is the chunk of this number.
     fn is_chunk(opened: &Option<Opened>, number: u64) -> bool
@@ -69,9 +76,7 @@ impl Cache {
         ensures other { result.other ≡ None }
     {
         Cache {
-            number: 0,
-            piece: Vec::new(alloc),
-            last: false,
+            first: Opened::none(alloc),
             judged: false,
             other: None,
             used: false,
@@ -83,18 +88,13 @@ impl Cache {
         ensures judged { self.new.judged ≡ false }
         ensures same { (self.new.other ≡ self.old.other) × (self.new.used ≡ self.old.used) }
         ensures some { self.old.judged ≡ true → IsSome result }
-        ensures is { (it : Opened) → result ≡ Some it →
-            (self.old.judged ≡ true) × (it.number ≡ self.old.number) × (it.piece ≡ self.old.piece) × (it.last ≡ self.old.last) }
+        ensures is { (it : Opened) → result ≡ Some it → (self.old.judged ≡ true) × (it ≡ self.old.first) }
     {
         if !self.judged {
             return None;
         }
         self.judged = false;
-        Some(Opened {
-            number: self.number,
-            piece: mem::replace(&mut self.piece, Vec::new(alloc)),
-            last: self.last,
-        })
+        Some(mem::replace(&mut self.first, Opened::none(alloc)))
     }
 
     // Exchanges the two.
@@ -102,10 +102,10 @@ impl Cache {
         ensures kept { (opened : List ℕ → List ℕ → List ℕ → Option (List ℕ)) (key : List ℕ) (payload : Stretch)
             → IsKept opened key payload self.old → IsKept opened key payload self.new }
         ensures same { SameChunks self.old self.new }
-        ensures brought { (b : ℕ) → has_number b self.old.other ≡ true → (self.new.judged ≡ true) × (self.new.number ≡ b) }
+        ensures brought { (b : ℕ) → has_number b self.old.other ≡ true → (self.new.judged ≡ true) × (self.new.first.number ≡ b) }
         ensures brought_last { (b : ℕ) → has_last b self.old.other ≡ true
-            → (self.new.judged ≡ true) × (self.new.number ≡ b) × (self.new.last ≡ true) }
-        ensures put { self.old.judged ≡ true → has_number self.old.number self.new.other ≡ true }
+            → (self.new.judged ≡ true) × (self.new.first.number ≡ b) × (self.new.first.last ≡ true) }
+        ensures put { self.old.judged ≡ true → has_number self.old.first.number self.new.other ≡ true }
         ensures used { self.old.used ≡ false → self.new.used ≡ true }
     {
         let first = self.set_aside(alloc);
@@ -113,16 +113,8 @@ impl Cache {
         self.used = !self.used;
         match other {
             None => {}
-            Some(
-                Opened {
-                    number,
-                    piece,
-                    last,
-                },
-            ) => {
-                self.number = number;
-                self.piece = piece;
-                self.last = last;
+            Some(opened) => {
+                self.first = opened;
                 self.judged = true;
             }
         }
@@ -151,9 +143,9 @@ impl Cache {
         last: bool,
         judged: bool,
     )
-        requires whole { judged ≡ true → IsChunkSize number last piece.items }
+        requires whole { IsChunkSize number last piece.items }
         requires room { self.old.other ≡ None }
-        ensures first { (self.new.number ≡ number) × (self.new.piece ≡ piece) × (self.new.last ≡ last) × (self.new.judged ≡ judged)
+        ensures first { (self.new.first.number ≡ number) × (self.new.first.piece ≡ piece) × (self.new.first.last ≡ last) × (self.new.judged ≡ judged)
             × (self.new.used ≡ true) }
         ensures kept { (opened : List ℕ → List ℕ → List ℕ → Option (List ℕ)) (key : List ℕ) (payload : Stretch) → IsKept opened key payload self.old →
             (judged ≡ true → IsHeld opened key payload number last 0 piece.items) → IsKept opened key payload self.new }
@@ -161,9 +153,11 @@ impl Cache {
         ensures keeps_last { self.old.used ≡ true → (b : ℕ) → last_used self.old ≡ Some b → HasOne self.new b }
     {
         self.exchange(alloc);
-        self.number = number;
-        self.piece = piece;
-        self.last = last;
+        self.first = Opened {
+            number,
+            piece,
+            last,
+        };
         self.judged = judged;
         self.used = true;
     }
@@ -176,7 +170,7 @@ impl Cache {
         ensures none { are_kept ≡ false → (b : ℕ) → HasOne self.new b → ⊥ }
     {
         if !are_kept {
-            self.piece = Vec::new(alloc);
+            self.first = Opened::none(alloc);
             self.judged = false;
             self.other = None;
         }
@@ -184,9 +178,9 @@ impl Cache {
 
     /// Whether the chunk of this number is there by the verdict on it and has a byte at this place. It is the first then.
     pub(crate) fn find(&mut self, alloc: Global, number: u64, at: usize) -> bool
-        ensures found { IsTrue result → (self.new.judged ≡ true) × (self.new.number ≡ number) × (at < length self.new.piece.items) }
+        ensures found { IsTrue result → (self.new.judged ≡ true) × (self.new.first.number ≡ number) × (at < length self.new.first.piece.items) }
         ensures none { result ≡ false → HasOne self.old number
-            → (self.new.judged ≡ true) × (self.new.number ≡ number) × (length self.new.piece.items ≤ at) }
+            → (self.new.judged ≡ true) × (self.new.first.number ≡ number) × (length self.new.first.piece.items ≤ at) }
         ensures kept { (opened : List ℕ → List ℕ → List ℕ → Option (List ℕ)) (key : List ℕ) (payload : Stretch)
             → IsKept opened key payload self.old → IsKept opened key payload self.new }
         ensures same { SameChunks self.old self.new }
@@ -194,12 +188,12 @@ impl Cache {
         if Cache::is_chunk(&self.other, number) {
             self.exchange(alloc);
         }
-        self.judged && self.number == number && at < self.piece.len()
+        self.judged && self.first.number == number && at < self.first.piece.len()
     }
 
     /// Whether the chunk of this number is there as the last, by the verdict on it. It is the first then.
     pub(crate) fn find_last(&mut self, alloc: Global, number: u64) -> bool
-        ensures found { IsTrue result → (self.new.judged ≡ true) × (self.new.number ≡ number) × (self.new.last ≡ true) }
+        ensures found { IsTrue result → (self.new.judged ≡ true) × (self.new.first.number ≡ number) × (self.new.first.last ≡ true) }
         ensures none { result ≡ false → HasLast self.old number → ⊥ }
         ensures kept { (opened : List ℕ → List ℕ → List ℕ → Option (List ℕ)) (key : List ℕ) (payload : Stretch)
             → IsKept opened key payload self.old → IsKept opened key payload self.new }
@@ -209,7 +203,7 @@ impl Cache {
             self.exchange(alloc);
             return true;
         }
-        self.judged && self.number == number && self.last
+        self.judged && self.first.number == number && self.first.last
     }
 
     /// Has the chunk of this number, whose text was read, as the first: the other one, or one that is opened. It is used now.
@@ -236,12 +230,8 @@ impl Cache {
             return Ok(());
         }
         self.make_room(alloc);
-        match open_chunk::<S>(alloc, opens, key, number, text) {
-            Err(e) => Err(e),
-            Ok((piece, last)) => {
-                self.put(alloc, number, piece, last, true);
-                Ok(())
-            }
-        }
+        let (piece, last) = open_chunk::<S>(alloc, opens, key, number, text)?;
+        self.put(alloc, number, piece, last, true);
+        Ok(())
     }
 }

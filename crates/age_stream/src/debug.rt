@@ -15,7 +15,7 @@ impl<S: Suite, R: Read> fmt::Debug for StreamReader<S, R> {
     ghost debug_output = { λ reader. Some (debug_reader reader) };
 
     fn fmt<W: fmt::Write>(&self, f: &mut fmt::Formatter<W>) -> fmt::Result {
-        let place = PIECE as u64 * self.number + self.at as u64;
+        let place = self.place.before();
         write!(f, "StreamReader {{ place: {place}, .. }}")
     }
 }

@@ -8,6 +8,7 @@ mod cache;
 mod debug;
 pub mod laws;
 pub mod nonce;
+mod place;
 pub mod reader;
 mod seeking;
 pub mod sizes;

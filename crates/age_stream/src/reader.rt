@@ -10,7 +10,7 @@ ghost use Rattle.age_v1.specs.PayloadAnswers.{Gives};
 ghost use Rattle.age_v1.specs.DeliveredPayload.{allowed, chunk_of};
 ghost use Rattle.age_stream.specs.Keeping.{OwnOrInner, IsReadRefusal};
 ghost use Rattle.age_stream.specs.PrivateKeeping.{IsChunkRefusal, KeepsPayload};
-ghost use Rattle.age_stream.specs.Reading.{payload_at, spare, IsSound};
+ghost use Rattle.age_stream.specs.Reading.{payload_from, spare, tells_from, IsSound};
 ghost use Rattle.age_stream.specs.Cache.{last_used};
 ghost use Rattle.age_stream.specs.PrivateCache.{IsAtChunk, IsKept};
 ghost use Rattle.age_stream.specs.PrivateWholeness.{IsAllowedAt, IsOpening, OpensTwice};
@@ -21,10 +21,12 @@ ghost use Rattle.age_v1.proofs.DeliveredSizes.{delivered-bytes, delivered-short}
 
 use crate::cache::Cache;
 use crate::nonce::nonce_of;
+use crate::place::Place;
 use crate::sizes::{CHUNK, MOST_CHUNKS};
+use crate::source::Source;
 use age_error::bytes::{known_array, known_bytes};
 use age_error::io::Error;
-use age_io::{Read, room_for};
+use age_io::Read;
 use age_suite::suite::{Opens, Suite};
 use std::alloc::{AllocError, Global};
 use std::marker::PhantomData;
@@ -39,33 +41,18 @@ use std::marker::PhantomData;
 pub struct StreamReader<S: Suite, R: Read> {
     pub(crate) alloc: Global,
     pub(crate) key: [u8; 32],
-    pub(crate) inner: R,
-    // Room for one sealed chunk.
-    pub(crate) sealed: Vec<u8>,
-    // The place is `at` in this chunk of the plaintext.
-    pub(crate) number: u64,
-    pub(crate) at: usize,
-    // Whether that chunk is held: it is the first of those that were opened.
-    pub(crate) held: bool,
+    // Where the payload comes from.
+    pub(crate) source: Source<R>,
+    pub(crate) place: Place,
     pub(crate) cache: Cache,
-    // How many bytes were taken from the inner reader: exactly so of one that tells its bytes, which has fewer than 2^63.
-    // Any other may have more, and the count stays at 2^64 - 1.
-    pub(crate) taken: u64,
-    pub(crate) failed: bool,
-    // Whether a seek was made.
-    pub(crate) sought: bool,
     pub(crate) opens: Opens,
     pub(crate) suite: PhantomData<S>,
     ghost key_bytes: { AreBytesOf 32 key },
-    ghost room: { length sealed.items ≡ 65552 },
-    ghost offset: { at ≤ 65536 },
-    ghost limit: { number ≤ 2 ^ 44 },
-    ghost chunk: { held ≡ true → IsAtChunk number at cache },
+    ghost chunk: { place.held ≡ true → IsAtChunk place.number place.at cache },
     ghost count_fits: { opens < 2 ^ 64 },
-    ghost unspent: { failed ≡ false → held ≡ true → R.faults inner < most_faults },
-    ghost kept: { IsTrue (R.tells inner && R.steady inner) → IsKept S.opened key (payload_at (R.place inner) taken (R.content inner)) cache },
-    ghost sound: { IsTrue (R.tells inner && R.steady inner) →
-        IsSound S.opened key failed held at cache.piece.items cache.last sought number taken (R.place inner) (R.content inner) (R.rest inner) },
+    ghost unspent: { place.failed ≡ false → place.held ≡ true → R.faults source.inner < most_faults },
+    ghost kept: { IsTrue (tells_from source) → IsKept S.opened key (payload_from source) cache },
+    ghost sound: { IsTrue (tells_from source) → IsSound S.opened key place cache source },
 }
 
 impl<S: Suite, R: Read> Read for StreamReader<S, R> {
@@ -88,28 +75,28 @@ impl<S: Suite, R: Read> Read for StreamReader<S, R> {
 
     ghost read_besides = { ReadsPayload };
 
-    ghost faults_fit = { λ r. R.faults_fit r.inner };
+    ghost faults_fit = { λ r. R.faults_fit r.source.inner };
 
-    ghost spent = { λ r told is. stream_spent S.opened r.key (shorter S.seal_of S.opened S.cipher r.key r.key_bytes)
-        r.failed r.held r.at r.cache.piece.items r.cache.last r.number (R.rest r.inner)
-        (λ good held. Prim.omega (arith, is, r.unspent good held)) (R.spent r.inner (and-left _ _ told) is) };
+    ghost spent = { λ r told is. stream_spent S.opened r.key (shorter S.seal_of S.opened S.cipher r.key r.key_bytes) r.place r.cache (R.rest
+        r.source.inner)
+        (λ good held. Prim.omega (arith, is, r.unspent good held)) (R.spent r.source.inner (and-left _ _ told) is) };
 
     ghost well = { λ r told well. both-true _ _ told well };
 
-    ghost stands = { λ r told steady. stream_stands S.opened r.key (shorter S.seal_of S.opened S.cipher r.key r.key_bytes)
-        r.failed r.held r.at r.cache.piece.items r.cache.last r.sought r.number r.taken (R.place r.inner) (R.content r.inner) (R.rest r.inner)
-        (R.are_bytes r.inner (and-left _ _ told)) r.offset (λ held. (r.chunk held).in_chunk) (r.sound told)
-        (R.stands r.inner (and-left _ _ told) (and-right _ _ told)) (and-right _ _ steady) };
+    ghost stands = { λ r told steady. stream_stands S.opened r.key (shorter S.seal_of S.opened S.cipher r.key r.key_bytes) r.place r.cache r.source
+        told
+        (R.are_bytes r.source.inner (and-left _ _ told)) (λ held. (r.chunk held).in_chunk) (r.sound told)
+        (R.stands r.source.inner (and-left _ _ told) (and-right _ _ told)) (and-right _ _ steady) };
 
     ghost are_bytes = { λ r told. delivered-bytes S.opened r.key (shorter S.seal_of S.opened S.cipher r.key r.key_bytes)
-        (opens_bytes S.seal_of S.opened S.cipher r.key r.key_bytes) 0 (R.place r.inner - r.taken) (R.content r.inner)
-        (R.are_bytes r.inner (and-left _ _ told)) };
+        (opens_bytes S.seal_of S.opened S.cipher r.key r.key_bytes) 0 (R.place r.source.inner - r.source.taken) (R.content r.source.inner)
+        (R.are_bytes r.source.inner (and-left _ _ told)) };
 
     ghost short = { λ r told. delivered-short S.opened r.key (shorter S.seal_of S.opened S.cipher r.key r.key_bytes)
-        (opens_bytes S.seal_of S.opened S.cipher r.key r.key_bytes) 0 (R.place r.inner - r.taken) (R.content r.inner)
-        (R.are_bytes r.inner (and-left _ _ told)) (R.short r.inner (and-left _ _ told)) };
+        (opens_bytes S.seal_of S.opened S.cipher r.key r.key_bytes) 0 (R.place r.source.inner - r.source.taken) (R.content r.source.inner)
+        (R.are_bytes r.source.inner (and-left _ _ told)) (R.short r.source.inner (and-left _ _ told)) };
 
-    ghost place_fits = { λ r told. Prim.omega (arith, r.offset, r.limit) };
+    ghost place_fits = { λ r told. Prim.omega (arith, r.place.offset, r.place.limit) };
 
     /// Puts the next bytes of the plaintext in front of `buf`, and answers how many they are: the smaller of the buffer
     /// and what is left of the chunk at the place.
@@ -144,7 +131,7 @@ impl<S: Suite, R: Read> Read for StreamReader<S, R> {
         ensures opens { OpensTwiceAtMost self.old self.new result }
         ensures chunks { KeepsRead self.old self.new result }
     {
-        if self.failed {
+        if self.place.failed {
             return Err(Error::Failed);
         }
         if buf.is_empty() {
@@ -175,19 +162,19 @@ impl<S: Suite, R: Read> StreamReader<S, R> {
     {
         // For the proof alone: these are bytes, each below 256.
         known_array(&key);
-        let sealed = room_for(alloc, CHUNK)?;
+        let source = Source::new(alloc, inner)?;
         Ok(StreamReader {
             alloc,
             key,
-            inner,
-            sealed,
-            number: 0,
-            at: 0,
-            held: false,
+            source,
+            place: Place {
+                number: 0,
+                at: 0,
+                held: false,
+                failed: false,
+                sought: false,
+            },
             cache: Cache::new(alloc),
-            taken: 0,
-            failed: false,
-            sought: false,
             opens: Opens::new(),
             suite: PhantomData,
         })
@@ -208,29 +195,23 @@ impl<S: Suite, R: Read> StreamReader<S, R> {
         let StreamReader {
             alloc: _,
             key: _,
-            inner: reader,
-            sealed: _,
-            number: _,
-            at: _,
-            held: _,
+            source,
+            place: _,
             cache: _,
-            taken: _,
-            failed: _,
-            sought: _,
             opens: _,
             suite: _,
         } = self;
-        reader
+        source.into_inner()
     }
 
     // A read of a good reader into a buffer that isn't empty.
     #[tactic(auto, using(crate::proofs::Holding::rest_failed, crate::proofs::Holding::fault_failed, crate::proofs::Keeping::ok_narrows))]
     pub(crate) fn read_on(&mut self, buf: &mut [u8]) -> Result<usize, Error>
-        requires good { self.old.failed ≡ false }
+        requires good { self.old.place.failed ≡ false }
         requires some { 0 < length buf.old }
         ensures reads { ReadsBy ⟦<StreamReader<S, R> as Read>⟧ self.old self.new buf.new result }
-        ensures keeps { KeepsPayload ⟦<R as Read>⟧ (stops_of self.old) self.old.inner self.old.taken self.new.inner self.new.taken result }
-        ensures names { IfErr result (OwnOrInner ⟦<R as Read>⟧ IsReadRefusal self.old.inner) }
+        ensures keeps { KeepsPayload (stops_of self.old) self.old.source self.new.source result }
+        ensures names { IfErr result (OwnOrInner ⟦<R as Read>⟧ IsReadRefusal self.old.source.inner) }
         ensures says { IfErr result (SaysWhy self.old self.new) }
         ensures moves { Moves self.old self.new result }
         ensures answers { AnswersRead self.old self.new buf.old buf.new result }
@@ -240,10 +221,8 @@ impl<S: Suite, R: Read> StreamReader<S, R> {
         if self.is_after_last() {
             return self.end();
         }
-        match self.hold() {
-            Err(e) => Err(e),
-            Ok(()) => Ok(self.give(buf)),
-        }
+        self.hold()?;
+        Ok(self.give(buf))
     }
 
     // Whether it has come through a chunk that it holds as the last.
@@ -251,23 +230,24 @@ impl<S: Suite, R: Read> StreamReader<S, R> {
         ensures yes { IsTrue result → IsAfterLast self.now }
         ensures no { result ≡ false → IsAfterLast self.now → ⊥ }
     {
-        self.held && self.cache.last && self.at == self.cache.piece.len()
+        self.place.held && self.cache.first.last && self.place.at == self.cache.first.piece.len()
     }
 
     // Holds a byte of the chunk at the place, or the last chunk, which is empty.
     fn hold(&mut self) -> Result<(), Error>
-        requires good { self.old.failed ≡ false }
-        requires more { self.old.held ≡ true → self.old.cache.last ≡ true → self.old.at < length self.old.cache.piece.items }
-        ensures keeps { KeepsPayload ⟦<R as Read>⟧ (stops_of self.old) self.old.inner self.old.taken self.new.inner self.new.taken result }
-        ensures names { IfErr result (OwnOrInner ⟦<R as Read>⟧ IsReadRefusal self.old.inner) }
-        ensures says { IfErr result (λ e. RefusedBelow ⟦<R as Read>⟧ 65552 self.old.inner self.new.inner e ⊎ RefusesText self.old self.new e) }
+        requires good { self.old.place.failed ≡ false }
+        requires more { self.old.place.held ≡ true → self.old.cache.first.last ≡ true → self.old.place.at < length self.old.cache.first.piece.items }
+        ensures keeps { KeepsPayload (stops_of self.old) self.old.source self.new.source result }
+        ensures names { IfErr result (OwnOrInner ⟦<R as Read>⟧ IsReadRefusal self.old.source.inner) }
+        ensures says { IfErr result (λ e. RefusedBelow ⟦<R as Read>⟧ 65552 self.old.source.inner self.new.source.inner e
+            ⊎ RefusesText self.old self.new e) }
         ensures stays { StaysAt self.old self.new }
         ensures holds { OnOk result (HasOpenedAt self.old self.new) }
         ensures refused { IfErr result (RefusesAtPlace self.old self.new) }
         ensures opens { OpensFew self.old self.new result }
     {
         self.pass();
-        if self.held {
+        if self.place.held {
             return Ok(());
         }
         self.open()
@@ -275,89 +255,84 @@ impl<S: Suite, R: Read> StreamReader<S, R> {
 
     // After a middle chunk that was given whole the place is the front of the next.
     fn pass(&mut self)
-        requires good { self.old.failed ≡ false }
-        requires more { self.old.held ≡ true → self.old.cache.last ≡ true → self.old.at < length self.old.cache.piece.items }
+        requires good { self.old.place.failed ≡ false }
+        requires more { self.old.place.held ≡ true → self.old.cache.first.last ≡ true → self.old.place.at < length self.old.cache.first.piece.items }
         ensures passes { PassesOn self.old self.new }
-        ensures left { self.new.held ≡ true → self.new.at < length self.new.cache.piece.items }
+        ensures left { self.new.place.held ≡ true → self.new.place.at < length self.new.cache.first.piece.items }
         ensures holding { (IsHolding self.old → IsHolding self.new) × (IsHolding self.new → IsHolding self.old) }
-        ensures spared { self.new.opens + spare self.new.held self.new.cache.last + self.old.number
-            ≤ self.old.opens + spare self.old.held self.old.cache.last + self.new.number }
+        ensures spared { self.new.opens + spare self.new.place.held self.new.cache.first.last + self.old.place.number
+            ≤ self.old.opens + spare self.old.place.held self.old.cache.first.last + self.new.place.number }
     {
-        if self.held && self.at == self.cache.piece.len() {
-            self.number += 1;
-            self.at = 0;
-            self.held = false;
+        if self.place.held && self.place.at == self.cache.first.piece.len() {
+            self.place.number += 1;
+            self.place.at = 0;
+            self.place.held = false;
         }
     }
 
     // After the last chunk: the end, or bytes that come after it.
     fn end(&mut self) -> Result<usize, Error>
-        requires good { self.old.failed ≡ false }
-        requires held { self.old.held ≡ true }
-        requires last { self.old.cache.last ≡ true }
-        requires given { self.old.at ≡ length self.old.cache.piece.items }
-        ensures keeps { KeepsPayload ⟦<R as Read>⟧ (stops_of self.old) self.old.inner self.old.taken self.new.inner self.new.taken result }
-        ensures names { IfErr result (OwnOrInner ⟦<R as Read>⟧ IsReadRefusal self.old.inner) }
-        ensures says { IfErr result (λ e. RefusedBelow ⟦<R as Read>⟧ 1 self.old.inner self.new.inner e ⊎ RefusesMore self.old self.new e) }
+        requires good { self.old.place.failed ≡ false }
+        requires held { self.old.place.held ≡ true }
+        requires last { self.old.cache.first.last ≡ true }
+        requires given { self.old.place.at ≡ length self.old.cache.first.piece.items }
+        ensures keeps { KeepsPayload (stops_of self.old) self.old.source self.new.source result }
+        ensures names { IfErr result (OwnOrInner ⟦<R as Read>⟧ IsReadRefusal self.old.source.inner) }
+        ensures says { IfErr result (λ e. RefusedBelow ⟦<R as Read>⟧ 1 self.old.source.inner self.new.source.inner e
+            ⊎ RefusesMore self.old self.new e) }
         ensures stays { Stays self.old self.new }
-        ensures sought { self.new.sought ≡ self.old.sought }
+        ensures sought { self.new.place.sought ≡ self.old.place.sought }
         ensures none { IfOk result (λ n. n ≡ 0) }
         ensures ends { OnOk result (EndsClean self.old self.new) }
         ensures refused { IfErr result (RefusesPastLast self.old self.new) }
     {
-        match self.take(1) {
-            Err(e) => Err(e),
-            Ok(count) => {
-                if count > 0 {
-                    return Err(Error::AfterLast);
-                }
-                self.failed = false;
-                Ok(0)
-            }
+        // It stays so unless nothing follows.
+        self.place.failed = true;
+        let count = self.source.take(1)?;
+        if count > 0 {
+            return Err(Error::AfterLast);
         }
+        self.place.failed = false;
+        Ok(0)
     }
 
     // Reads and opens the chunk at the place.
     fn open(&mut self) -> Result<(), Error>
-        requires good { self.old.failed ≡ false }
-        requires closed { self.old.held ≡ false }
-        ensures keeps { KeepsPayload ⟦<R as Read>⟧ (stops_of self.old) self.old.inner self.old.taken self.new.inner self.new.taken result }
-        ensures names { IfErr result (OwnOrInner ⟦<R as Read>⟧ IsReadRefusal self.old.inner) }
-        ensures says { IfErr result (λ e. RefusedBelow ⟦<R as Read>⟧ 65552 self.old.inner self.new.inner e ⊎ RefusesText self.old self.new e) }
+        requires good { self.old.place.failed ≡ false }
+        requires closed { self.old.place.held ≡ false }
+        ensures keeps { KeepsPayload (stops_of self.old) self.old.source self.new.source result }
+        ensures names { IfErr result (OwnOrInner ⟦<R as Read>⟧ IsReadRefusal self.old.source.inner) }
+        ensures says { IfErr result (λ e. RefusedBelow ⟦<R as Read>⟧ 65552 self.old.source.inner self.new.source.inner e
+            ⊎ RefusesText self.old self.new e) }
         ensures stays { StaysAt self.old self.new }
         ensures holds { OnOk result (HasOpenedAt self.old self.new) }
         ensures refused { IfErr result (RefusesAtPlace self.old self.new) }
         ensures opens { OpensFew self.old self.new result }
     {
-        let count = match self.take(CHUNK) {
-            Err(e) => return Err(e),
-            Ok(count) => count,
-        };
-        match self.cache.bring::<S>(
+        // It stays so on each way out but the last.
+        self.place.failed = true;
+        let count = self.source.take(CHUNK)?;
+        self.cache.bring::<S>(
             self.alloc,
             &mut self.opens,
             &self.key,
-            self.number,
-            &self.sealed[..count],
-        ) {
-            Err(e) => Err(e),
-            Ok(()) => {
-                // Only where the inner reader has fewer bytes than a seek found.
-                if self.at > self.cache.piece.len() {
-                    return Err(Error::Truncated);
-                }
-                self.held = true;
-                self.failed = false;
-                Ok(())
-            }
+            self.place.number,
+            &self.source.room[..count],
+        )?;
+        // Only where the inner reader has fewer bytes than a seek found.
+        if self.place.at > self.cache.first.piece.len() {
+            return Err(Error::Truncated);
         }
+        self.place.held = true;
+        self.place.failed = false;
+        Ok(())
     }
 
     // Gives bytes of the chunk that is held.
     fn give(&mut self, buf: &mut [u8]) -> usize
-        requires good { self.old.failed ≡ false }
-        requires held { self.old.held ≡ true }
-        ensures count { result ≡ min (length buf.old) (length self.old.cache.piece.items - self.old.at) }
+        requires good { self.old.place.failed ≡ false }
+        requires held { self.old.place.held ≡ true }
+        ensures count { result ≡ min (length buf.old) (length self.old.cache.first.piece.items - self.old.place.at) }
         ensures held { GivesHeld self.old self.new }
         ensures moves { place_of self.new ≡ place_of self.old + result }
         ensures beyond { drop result buf.new ≡ drop result buf.old }
@@ -365,11 +340,11 @@ impl<S: Suite, R: Read> StreamReader<S, R> {
             (⟦<StreamReader<S, R> as Read>⟧.rest self.old) (⟦<StreamReader<S, R> as Read>⟧.rest self.new) }
         ensures gives { let reader = ⟦<StreamReader<S, R> as Read>⟧ in IsTrue (reader.tells self.old) → 0 < result →
             Gives S.seal_of self.old.key (payload_of self.old) (reader.place self.old) (length buf.old) (take result buf.new) }
-        ensures uses { 0 < result → last_used self.new.cache ≡ Some self.old.number }
+        ensures uses { 0 < result → last_used self.new.cache ≡ Some self.old.place.number }
     {
-        let count = buf.len().min(self.cache.piece.len() - self.at);
-        buf[..count].copy_from_slice(&self.cache.piece[self.at..self.at + count]);
-        self.at += count;
+        let count = buf.len().min(self.cache.first.piece.len() - self.place.at);
+        buf[..count].copy_from_slice(&self.cache.first.piece[self.place.at..self.place.at + count]);
+        self.place.at += count;
         self.cache.used = true;
         count
     }
@@ -380,15 +355,9 @@ impl<S: Suite, R: Read + Drop> Drop for StreamReader<S, R> {
         let StreamReader {
             alloc: _,
             key: _,
-            inner: _,
-            sealed: _,
-            number: _,
-            at: _,
-            held: _,
+            source: _,
+            place: _,
             cache: _,
-            taken: _,
-            failed: _,
-            sought: _,
             opens: _,
             suite: _,
         } = self;

@@ -7,14 +7,15 @@ ghost use Rattle.age_io.specs.CursorLemmas.{or_too_long_no_device};
 ghost use Rattle.age_io.specs.Calls.{SeeksBy};
 ghost use Rattle.age_v1.specs.Payload as Payload;
 ghost use Rattle.age_v1.specs.Payload.{final_chunk};
-ghost use Rattle.age_stream.specs.PrivateKeeping.{IsPayloadSeekRefusal, KeepsPayload};
+ghost use Rattle.age_stream.specs.PrivateKeeping.{IsLost, IsPayloadSeekRefusal, KeepsPayload};
 ghost use Rattle.age_v1.specs.DeliveredPayload.{IsLastChunk};
+ghost use Rattle.age_stream.specs.Reading.{tells_from};
 ghost use Rattle.age_stream.specs.Seeking.{FindsTarget, RefusesTarget};
 ghost use Rattle.age_v1.specs.PayloadTargets.{below_start};
 
+use crate::place::Place;
 use crate::reader::{StreamReader, open_as};
 use crate::sizes::{CHUNK, LONGEST_PLAINTEXT, PIECE};
-use crate::source::lost;
 use age_error::io::{Error, SeekFrom};
 use age_io::{Read, Seek, is_outside, place_at, sought};
 use age_suite::suite::Suite;
@@ -57,11 +58,20 @@ fn find(to: SeekFrom, place: u64, size: u64) -> Result<(u64, u64), Error>
             if len > LONGEST_PLAINTEXT {
                 return Err(Error::TooLong);
             }
-            match sought(to, place, len) {
-                Err(e) => Err(e),
-                Ok(target) => Ok((target, len)),
-            }
+            let target = sought(to, place, len)?;
+            Ok((target, len))
         }
+    }
+}
+
+// The refusal where the inner reader refuses a target inside its own content, or a read refuses as a seek does: the end
+// isn't where it was found.
+pub(crate) fn lost(error: Error) -> Error
+    ensures { IsLost error result }
+{
+    match error {
+        Error::BeforeStart | Error::PastEnd => Error::BadEnd,
+        other => other,
     }
 }
 
@@ -73,67 +83,51 @@ impl<S: Suite, R: Seek> StreamReader<S, R> {
 
     // Goes to a place before the end. The chunk there is held then if it is opened by the verdict on it.
     fn enter(&mut self, start: u64, size: u64, place: u64, was_failed: bool) -> Result<(), Error>
-        requires failed { self.old.failed ≡ true }
-        requires sought { self.old.sought ≡ true }
+        requires failed { self.old.place.failed ≡ true }
+        requires sought { self.old.place.sought ≡ true }
         requires limit { place < 2 ^ 60 }
-        requires start { IsTrue (R.tells self.old.inner && R.steady self.old.inner) → start ≡ R.place self.old.inner - self.old.taken }
-        requires size { IsTrue (R.tells self.old.inner && R.steady self.old.inner) → size ≡ length (payload_of self.old).bytes }
+        requires start { IsTrue (tells_from self.old.source) → start ≡ R.place self.old.source.inner - self.old.source.taken }
+        requires size { IsTrue (tells_from self.old.source) → size ≡ length (payload_of self.old).bytes }
         requires before { place + 16 * (place / 65536) + 16 < size }
-        ensures keeps { KeepsPayload ⟦<R as Read>⟧
-            (IsPayloadSeekRefusal R.seek_refuses) self.old.inner self.old.taken self.new.inner self.new.taken result }
-        ensures same { (self.new.key ≡ self.old.key) × (self.new.sought ≡ true) × (self.new.opens ≡ self.old.opens) }
+        ensures keeps { KeepsPayload (IsPayloadSeekRefusal R.seek_refuses) self.old.source self.new.source result }
+        ensures same { (self.new.key ≡ self.old.key) × (self.new.place.sought ≡ true) × (self.new.opens ≡ self.old.opens) }
         ensures enters { OnOk result (Enters self.old self.new size place was_failed) }
         ensures refused { IfErr result (RefusesStep self.old self.new (λ _. ⊥)) }
-        ensures says { IfErr result (RefusedOnTheWay ⟦<R as Read>⟧ R.seek_refuses self.new.inner) }
+        ensures says { IfErr result (RefusedOnTheWay ⟦<R as Read>⟧ R.seek_refuses self.new.source.inner) }
     {
         let number = place / PIECE as u64;
         let at = (place % PIECE as u64) as usize;
-        self.held = false;
+        self.place.held = false;
         self.cache.keep_if(self.alloc, !was_failed);
         if self.cache.find(self.alloc, number, at) {
             let past = (CHUNK as u64 * number + CHUNK as u64).min(size);
-            match self.stand(start, past) {
-                Err(e) => Err(e),
-                Ok(()) => {
-                    self.number = number;
-                    self.at = at;
-                    self.held = true;
-                    self.failed = false;
-                    Ok(())
-                }
-            }
-        } else {
-            match self.stand(start, CHUNK as u64 * number) {
-                Err(e) => Err(e),
-                Ok(()) => {
-                    self.number = number;
-                    self.at = at;
-                    self.failed = false;
-                    Ok(())
-                }
-            }
+            self.source.stand(start, past)?;
+            self.place = Place::reached(number, at, true);
+            return Ok(());
         }
+        self.source.stand(start, CHUNK as u64 * number)?;
+        self.place = Place::reached(number, at, false);
+        Ok(())
     }
 
     // Reads and opens the chunk before which the inner reader stands, as the last.
     fn open_last(&mut self, number: u64) -> Result<(), Error>
-        requires failed { self.old.failed ≡ true }
-        requires unheld { self.old.held ≡ false }
-        requires sought { self.old.sought ≡ true }
+        requires failed { self.old.place.failed ≡ true }
+        requires unheld { self.old.place.held ≡ false }
+        requires sought { self.old.place.sought ≡ true }
         requires limit { number < 2 ^ 44 }
-        requires stands { IsTrue (R.tells self.old.inner && R.steady self.old.inner) → (self.old.taken ≡ 65552 * number)
-            × (R.rest self.old.inner ≡ from_place (65552 * number) (payload_of self.old)) }
-        requires last { IsTrue (R.tells self.old.inner && R.steady self.old.inner) → IsLastChunk (length (payload_of self.old).bytes) number }
-        ensures keeps { KeepsPayload ⟦<R as Read>⟧
-            (IsPayloadSeekRefusal R.seek_refuses) self.old.inner self.old.taken self.new.inner self.new.taken result }
-        ensures same { (self.new.key ≡ self.old.key) × (self.new.sought ≡ true) }
+        requires stands { IsTrue (tells_from self.old.source) → (self.old.source.taken ≡ 65552 * number)
+            × (R.rest self.old.source.inner ≡ from_place (65552 * number) (payload_of self.old)) }
+        requires last { IsTrue (tells_from self.old.source) → IsLastChunk (length (payload_of self.old).bytes) number }
+        ensures keeps { KeepsPayload (IsPayloadSeekRefusal R.seek_refuses) self.old.source self.new.source result }
+        ensures same { (self.new.key ≡ self.old.key) × (self.new.place.sought ≡ true) }
         ensures enters { OnOk result (EntersEnd self.old self.new number (length (payload_of self.old).bytes - 16 * (number + 1))) }
         ensures refused { IfErr result (RefusesStep self.old self.new (IsNoLast self.old number)) }
         ensures says { IfErr result (SaysWhyEnd R.seek_refuses self.old self.new number) }
         ensures opens { (self.old.opens ≤ self.new.opens) × (self.new.opens ≤ self.old.opens + 1) }
         ensures chunks { OnOk result (KeepsBesideLast self.old self.new number) }
     {
-        let count = match self.take(CHUNK) {
+        let count = match self.source.take(CHUNK) {
             Err(e) => return Err(lost(e)),
             Ok(count) => count,
         };
@@ -144,17 +138,14 @@ impl<S: Suite, R: Seek> StreamReader<S, R> {
             &self.key,
             number,
             true,
-            &self.sealed[..count],
+            &self.source.room[..count],
         ) {
             Err(_) => Err(Error::OutOfMemory),
             Ok(None) => Err(Error::BadEnd),
             Ok(Some(piece)) => {
                 let len = piece.len();
                 self.cache.put(self.alloc, number, piece, true, len < PIECE);
-                self.number = number;
-                self.at = len;
-                self.held = true;
-                self.failed = false;
+                self.place = Place::reached(number, len, true);
                 Ok(())
             }
         }
@@ -162,24 +153,25 @@ impl<S: Suite, R: Seek> StreamReader<S, R> {
 
     // Whether a reader that hadn't failed holds the chunk of this number as the last.
     fn holds_last(&self, number: u64, was_failed: bool) -> bool
-        ensures yes { IsTrue result → (was_failed ≡ false) × (self.now.held ≡ true) × (self.now.cache.last ≡ true) × (self.now.number ≡ number) }
-        ensures no { result ≡ false → was_failed ≡ false → (self.now.held ≡ true) × (self.now.cache.last ≡ true) × (self.now.number ≡ number) → ⊥ }
+        ensures yes { IsTrue result → (was_failed ≡ false) × (self.now.place.held ≡ true) × (self.now.cache.first.last ≡ true)
+            × (self.now.place.number ≡ number) }
+        ensures no { result ≡ false → was_failed ≡ false → (self.now.place.held ≡ true) × (self.now.cache.first.last ≡ true)
+            × (self.now.place.number ≡ number) → ⊥ }
     {
-        !was_failed && self.held && self.cache.last && self.number == number
+        !was_failed && self.place.held && self.cache.first.last && self.place.number == number
     }
 
     // Goes to the end. The last chunk is opened as the last, unless it is held so.
     fn enter_end(&mut self, start: u64, size: u64, len: u64, was_failed: bool) -> Result<(), Error>
-        requires failed { self.old.failed ≡ true }
-        requires sought { self.old.sought ≡ true }
-        requires start { IsTrue (R.tells self.old.inner && R.steady self.old.inner) → start ≡ R.place self.old.inner - self.old.taken }
-        requires size { IsTrue (R.tells self.old.inner && R.steady self.old.inner) → size ≡ length (payload_of self.old).bytes }
+        requires failed { self.old.place.failed ≡ true }
+        requires sought { self.old.place.sought ≡ true }
+        requires start { IsTrue (tells_from self.old.source) → start ≡ R.place self.old.source.inner - self.old.source.taken }
+        requires size { IsTrue (tells_from self.old.source) → size ≡ length (payload_of self.old).bytes }
         requires last { IsLastChunk size (final_chunk size) }
         requires len { len + 16 * (final_chunk size + 1) ≡ size }
         requires limit { len ≤ 2 ^ 60 }
-        ensures keeps { KeepsPayload ⟦<R as Read>⟧
-            (IsPayloadSeekRefusal R.seek_refuses) self.old.inner self.old.taken self.new.inner self.new.taken result }
-        ensures same { (self.new.key ≡ self.old.key) × (self.new.sought ≡ true) }
+        ensures keeps { KeepsPayload (IsPayloadSeekRefusal R.seek_refuses) self.old.source self.new.source result }
+        ensures same { (self.new.key ≡ self.old.key) × (self.new.place.sought ≡ true) }
         ensures enters { OnOk result (EntersEnd self.old self.new (final_chunk size) len) }
         ensures refused { IfErr result (RefusesStep self.old self.new (IsNoLast self.old (final_chunk size))) }
         ensures says { IfErr result (SaysWhyEnd R.seek_refuses self.old self.new (final_chunk size)) }
@@ -189,37 +181,21 @@ impl<S: Suite, R: Seek> StreamReader<S, R> {
     {
         let number = (size - 1) / CHUNK as u64;
         if self.holds_last(number, was_failed) {
-            match self.stand(start, size) {
-                Err(e) => Err(e),
-                Ok(()) => {
-                    self.at = self.cache.piece.len();
-                    self.cache.used = true;
-                    self.failed = false;
-                    Ok(())
-                }
-            }
-        } else {
-            self.held = false;
-            self.cache.keep_if(self.alloc, !was_failed);
-            if self.cache.find_last(self.alloc, number) {
-                match self.stand(start, size) {
-                    Err(e) => Err(e),
-                    Ok(()) => {
-                        self.number = number;
-                        self.at = self.cache.piece.len();
-                        self.cache.used = true;
-                        self.held = true;
-                        self.failed = false;
-                        Ok(())
-                    }
-                }
-            } else {
-                match self.stand(start, CHUNK as u64 * number) {
-                    Err(e) => Err(e),
-                    Ok(()) => self.open_last(number),
-                }
-            }
+            self.source.stand(start, size)?;
+            self.cache.used = true;
+            self.place = Place::reached(number, self.cache.first.piece.len(), true);
+            return Ok(());
         }
+        self.place.held = false;
+        self.cache.keep_if(self.alloc, !was_failed);
+        if self.cache.find_last(self.alloc, number) {
+            self.source.stand(start, size)?;
+            self.cache.used = true;
+            self.place = Place::reached(number, self.cache.first.piece.len(), true);
+            return Ok(());
+        }
+        self.source.stand(start, CHUNK as u64 * number)?;
+        self.open_last(number)
     }
 
     // A seek whose target isn't below the start by the place alone.
@@ -227,41 +203,30 @@ impl<S: Suite, R: Seek> StreamReader<S, R> {
         requires { below_start to (place_of self.old) ≡ false }
         ensures { SeeksPayload R.seek_refuses self.old self.new to result }
     {
-        let place = PIECE as u64 * self.number + self.at as u64;
-        let was_failed = self.failed;
-        let taken = self.taken;
+        let place = self.place.before();
+        let was_failed = self.place.failed;
+        let taken = self.source.taken;
         // It stays so on each way out but a success and a refusal.
-        self.failed = true;
-        self.sought = true;
-        match self.look() {
-            Err(e) => Err(e),
-            Ok((start, size)) => match find(to, place, size) {
-                Err(e) => {
-                    if !is_outside(e) {
-                        return Err(e);
-                    }
-                    match self.stand(start, taken) {
-                        Err(fault) => Err(fault),
-                        Ok(()) => {
-                            self.failed = was_failed;
-                            Err(e)
-                        }
-                    }
+        self.place.failed = true;
+        self.place.sought = true;
+        let (start, size) = self.source.look()?;
+        match find(to, place, size) {
+            Err(e) => {
+                if !is_outside(e) {
+                    return Err(e);
                 }
-                Ok((target, len)) => {
-                    if target == len {
-                        match self.enter_end(start, size, len, was_failed) {
-                            Err(e) => Err(e),
-                            Ok(()) => Ok(target),
-                        }
-                    } else {
-                        match self.enter(start, size, target, was_failed) {
-                            Err(e) => Err(e),
-                            Ok(()) => Ok(target),
-                        }
-                    }
+                self.source.stand(start, taken)?;
+                self.place.failed = was_failed;
+                Err(e)
+            }
+            Ok((target, len)) => {
+                if target == len {
+                    self.enter_end(start, size, len, was_failed)?;
+                    return Ok(target);
                 }
-            },
+                self.enter(start, size, target, was_failed)?;
+                Ok(target)
+            }
         }
     }
 }
@@ -306,7 +271,7 @@ impl<S: Suite, R: Seek> Seek for StreamReader<S, R> {
         ensures opens { OpensOnceAtMost self.old self.new to result }
         ensures chunks { KeepsSought self.old self.new to result }
     {
-        let place = PIECE as u64 * self.number + self.at as u64;
+        let place = self.place.before();
         if is_below_start(to, place) {
             return Err(Error::BeforeStart);
         }

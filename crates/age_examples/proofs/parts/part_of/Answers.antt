@@ -17,7 +17,7 @@ returns-in-Err-read_at g c = λ told well never file plain carries for.
     by_cause inl (λ past. inr (ap Io past.0, past.1))
     (refusal_is c.in-Err-read_at.error c.args.place (place_of stream) (content_of stream) plain stands.place stands.content
     (λ other. c.in-Err-read_at.ensures.refuses.cause (c.in-Ok.ensures.tells ∙ told) (ap (λ s. s.ends_well) stands.content) other
-    (never_fails (λ s. g.R.Read.faults s.inner.source.inner.inner) stream c.read_at.new.self (λ t. never t.inner.source.inner.inner))))
+    (never_fails (λ s. g.R.Read.faults s.source.inner.source.inner.inner) stream c.read_at.new.self (λ t. never t.source.inner.source.inner.inner))))
 
 pub returns : goal.returns
 returns g c = λ told well never file plain carries for.

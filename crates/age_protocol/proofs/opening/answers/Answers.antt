@@ -12,7 +12,7 @@ returns-clause-cursor g c = λ told well never file plain carries for.
     let here : plain_rest_of stream ≡ from_place (place_of stream) (content_of stream) =
     stands.rest ∙ sym (ap (λ n. from_place n (content_of stream)) stands.place ∙ ap (λ s. from_place 0 s) stands.content) in
     λ none. c.in-Ok-run.ensures.cursor (c.in-Ok.ensures.tells ∙ told) (ap (λ s. s.ends_well) stands.content) here
-    (never_fails (λ s. g.R.Read.faults s.inner.source.inner.inner) stream c.run.new.reader (λ t. never t.inner.source.inner.inner)) none
+    (never_fails (λ s. g.R.Read.faults s.source.inner.source.inner.inner) stream c.run.new.reader (λ t. never t.source.inner.source.inner.inner)) none
     ∙ ap (λ (s : Stretch). replies c.args.ops.now s.bytes (place_of stream)) stands.content ∙ ap (λ n. replies c.args.ops.now plain n) stands.place
 
 pub returns-clause-opened : goal.returns-clause-opened

@@ -151,8 +151,8 @@ returns-in_err-copy_all g c =
           let text_told = both_told _ _ _ _ text.tells text.steady told in
           let stands = c.in_ok-stream.ensures.plaintext text_told (ap (λ s. s.ends_well) rest) plain
           (file_for g.S.Suite.seal_of _ plain file (armored_rest c.in_ok-text.text).bytes (sym (ap (λ s. s.bytes) rest)) for) in
-          let before = never c.in_ok-stream.stream.inner.source.inner.inner.now in
-          let after = never c.copy_all.new.reader.inner.source.inner.inner.now in
+          let before = never c.in_ok-stream.stream.source.inner.source.inner.inner.now in
+          let after = never c.copy_all.new.reader.source.inner.source.inner.inner.now in
           of_error _ _ _ is
           (by_cause inl (λ writes. inr (_, writes))
           (c.in_err-copy_all.ensures.why (c.in_ok-stream.ensures.tells ∙ text_told) (ap (λ s. s.ends_well) stands.rest)

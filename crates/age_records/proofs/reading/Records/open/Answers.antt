@@ -7,7 +7,7 @@ use Rattle.age_records.proofs.reading.Records.open.Goals as goal
 pub returns-in-Err : goal.returns-in-Err
 returns-in-Err g c =
     let refused = c.in-Err.ensures.refused in
-    let quiet = never-failing g.R.Read.faults c.args.reader.inner c.count_in.new.reader.inner in
+    let quiet = never-failing g.R.Read.faults c.args.reader.source.inner c.count_in.new.reader.source.inner in
     record {
       same = tt;
       opens = tt;

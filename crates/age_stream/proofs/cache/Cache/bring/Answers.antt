@@ -1,11 +1,11 @@
 use Rattle.age_stream.proofs.Cached.{held-read}
 use Rattle.age_stream.proofs.cache.Cache.bring.Goals as goal
 
-pub returns-in-Ok-clause-kept : goal.returns-in-Ok-clause-kept
-returns-in-Ok-clause-kept g c = λ payload kept text.
+pub returns-clause-kept : goal.returns-clause-kept
+returns-clause-kept g c = λ payload kept text.
     c.put.ensures.kept g.S.Suite.opened c.args.key.now payload (c.make_room.ensures.kept g.S.Suite.opened c.args.key.now payload kept)
-    (λ _. held-read g.S.Suite.opened c.args.key.now payload c.args.number c.args.text.now c.in-Ok.piece.items c.in-Ok.last text
-    c.in-Ok.ensures.is.short c.in-Ok.ensures.chunk)
+    (λ _. held-read g.S.Suite.opened c.args.key.now payload c.args.number c.args.text.now c.in_ok-piece.piece.items c.in_ok-piece.last text
+    c.in_ok-piece.ensures.is.short c.in_ok-piece.ensures.chunk)
 
 pub returns-then-is_chunk-clause-kept : goal.returns-then-is_chunk-clause-kept
 returns-then-is_chunk-clause-kept g c = λ payload kept text.

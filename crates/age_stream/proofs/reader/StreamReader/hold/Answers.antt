@@ -1,4 +1,7 @@
+use Rattle.std.proofs.Common.{subst}
 use Rattle.std.proofs.lemmas.Result.{on_ok_weaker, IfErr-weaker}
+use Rattle.std.specs.Prelude.{IfErr}
+use Rattle.age_stream.specs.Keeping.{OwnOrInner, IsReadRefusal}
 use Rattle.age_stream.proofs.Stepping.{holds-passed, opens-passed, refuses-passed, says-passed}
 use Rattle.age_stream.proofs.reader.StreamReader.hold.Goals as goal
 
@@ -18,7 +21,8 @@ returns-clause-opens g c =
     c.open.ensures.opens
 
 pub returns-clause-names : goal.returns-clause-names
-returns-clause-names g c = rw c.pass.ensures.passes.inner at c.open.ensures.names
+returns-clause-names g c =
+    subst (λ s. IfErr c.open.result (OwnOrInner g.R.Read IsReadRefusal s.inner)) c.pass.ensures.passes.source c.open.ensures.names
 
 pub returns-clause-says : goal.returns-clause-says
 returns-clause-says g c =

@@ -1,12 +1,14 @@
 use Rattle.std.proofs.Common.{◌≡◌, ◌∙◌, ◌+◌, ◌/◌, ◌≤◌, Some, inl, inr, arith, length, ap, sym, subst, take, true}
 use Rattle.std.proofs.lemmas.Result.{IfErr-weaker}
 use Rattle.age_stream.specs.Reading.{spare}
-use Rattle.age_stream.specs.Reader.{payload_of, place_of, IsAfterLast}
+use Rattle.age_io.specs.Reading.{Reads}
+use Rattle.age_stream.specs.Reader.{payload_of, tells_of, steady_of, content_of, place_of, plain_rest_of, faults_of, refuses_of, IsAfterLast}
+use Rattle.age_stream.specs.PrivateSteps.{AnswersRead}
 use Rattle.age_v1.specs.PayloadAnswers.{Gives}
 use Rattle.age_suite.specs.Suite.{one_more}
 use Rattle.age_stream.proofs.Cached.{comes}
-use Rattle.age_stream.proofs.Keeping.{payload-done, payload-refused, told-later}
-use Rattle.age_stream.proofs.ReadSteps.{answers-end, answers-refused, chunks-end, chunks-refused, moves-end, opens-end, reads-end, reads-given, reads-refused}
+use Rattle.age_stream.proofs.Keeping.{err-is, payload-done, told-later}
+use Rattle.age_stream.proofs.ReadSteps.{answers-end, answers-refused, chunks-end, moves-end, opens-end, reads-end, reads-given, reads-refused}
 use Rattle.age_stream.proofs.reader.StreamReader.read_on.Goals as goal
 
 -- after the last chunk
@@ -29,46 +31,40 @@ returns-then-is_after_last g c =
     }
 
 -- the chunk at the place is refused
-pub returns-in-Err : goal.returns-in-Err
-returns-in-Err g c =
+pub returns-in_err-hold-clause-reads : goal.returns-in_err-hold-clause-reads
+returns-in_err-hold-clause-reads g c =
     let self = c.args.self.now in
     let new = c.hold.new.self in
+    let done = c.in_err-hold.ensures in
+    let e = c.in_err-hold.field-0.0 in
+    subst (λ r. Reads tells_of steady_of content_of place_of plain_rest_of faults_of refuses_of self new c.args.buf.now r)
+    (sym (err-is c.from_residual.result e c.from_residual.ensures.1))
+    (reads-refused self new c.args.buf.now e done.keeps done.stays.key done.stays.place done.refused.fails done.refused.cause)
+
+pub returns-in_err-hold-clause-answers : goal.returns-in_err-hold-clause-answers
+returns-in_err-hold-clause-answers g c =
+    let self = c.args.self.now in
     let buf = c.args.buf.now in
-    let done = c.in-Err.ensures in
+    let e = c.in_err-hold.field-0.0 in
     let apart : IsAfterLast self → ⊥ = c.is_after_last.ensures.no c.if-is_after_last.false in
-    record {
-      names = done.names;
-      says = record { itself = λ _. done.says; after = λ is. absurd (apart is) };
-      reads = reads-refused self new buf c.in-Err.e done.keeps done.stays.key done.stays.place done.refused.fails done.refused.cause;
-      keeps = payload-refused g.R.Read _ _ _ _ _ done.keeps;
-      moves = record {
-        key = done.stays.key;
-        sought = done.stays.sought;
-        good = tt;
-        fails = done.refused.fails;
-        placed = tt;
-        stayed = done.stays.place;
-      };
-      answers = answers-refused self new buf c.in-Err.e apart done.refused;
-      opens = record { counts = done.opens.counts; most = done.opens.most; none = done.opens.none; spared = tt; spent = done.opens.spent };
-      chunks = chunks-refused self new buf c.in-Err.e apart;
-    }
+    subst (λ r. AnswersRead self c.hold.new.self buf buf r) (sym (err-is c.from_residual.result e c.from_residual.ensures.1))
+    (answers-refused self c.hold.new.self buf e apart c.in_err-hold.ensures.refused)
 
 -- bytes of the chunk at the place are given
-pub returns-in-Ok-clause-reads : goal.returns-in-Ok-clause-reads
-returns-in-Ok-clause-reads g c =
-    let done = c.in-Ok.ensures in
+pub returns-clause-reads : goal.returns-clause-reads
+returns-clause-reads g c =
+    let done = c.in_ok-hold.ensures in
     let given = c.give.ensures in
     reads-given c.args.self.now c.hold.new.self c.give.new.self c.args.buf.now c.give.new.buf c.give.result
-    (rw (given.held.inner, given.held.taken) (payload-done g.R.Read _ _ _ _ done.keeps)) done.stays done.holds given.held given.moves given.bytes
+    (rw given.held.source (payload-done _ _ done.keeps)) done.stays done.holds given.held given.moves given.bytes
     given.count c.give.auto.buf
 
-pub returns-in-Ok-clause-keeps : goal.returns-in-Ok-clause-keeps
-returns-in-Ok-clause-keeps g c = rw (c.give.ensures.held.inner, c.give.ensures.held.taken) (payload-done g.R.Read _ _ _ _ c.in-Ok.ensures.keeps)
+pub returns-clause-keeps : goal.returns-clause-keeps
+returns-clause-keeps g c = rw c.give.ensures.held.source (payload-done _ _ c.in_ok-hold.ensures.keeps)
 
-pub returns-in-Ok-clause-moves : goal.returns-in-Ok-clause-moves
-returns-in-Ok-clause-moves g c =
-    let stays = c.in-Ok.ensures.stays in
+pub returns-clause-moves : goal.returns-clause-moves
+returns-clause-moves g c =
+    let stays = c.in_ok-hold.ensures.stays in
     let given = c.give.ensures in
     record {
       key = given.held.key ∙ stays.key;
@@ -79,11 +75,11 @@ returns-in-Ok-clause-moves g c =
       stayed = tt;
     }
 
-pub returns-in-Ok-clause-answers : goal.returns-in-Ok-clause-answers
-returns-in-Ok-clause-answers g c =
+pub returns-clause-answers : goal.returns-clause-answers
+returns-clause-answers g c =
     let self = c.args.self.now in
     let mid = c.hold.new.self in
-    let done = c.in-Ok.ensures in
+    let done = c.in_ok-hold.ensures in
     let given = c.give.ensures in
     record {
       gives = λ told some.
@@ -92,9 +88,9 @@ returns-in-Ok-clause-answers g c =
           subst (λ n. Gives g.S.Suite.seal_of self.key (payload_of self) n long came) done.stays.place
           (subst (λ p. Gives g.S.Suite.seal_of self.key p (place_of mid) long came) (done.keeps.payload told)
           (subst (λ k. Gives g.S.Suite.seal_of k (payload_of mid) (place_of mid) long came) done.stays.key
-          (given.gives (told-later g.R.Read self.inner mid.inner done.keeps.inner.same told) some)));
+          (given.gives (told-later g.R.Read self.source.inner mid.source.inner done.keeps.inner.same told) some)));
       ended = λ told none. done.holds.ended told (omega (arith, given.count, none, c.requires.some, (mid.chunk done.holds.good.1).in_chunk));
-      inner_end = λ told. rw given.held.inner (done.holds.inner_end told);
+      inner_end = λ told. rw given.held.source (done.holds.inner_end told);
       refused = λ _. tt;
       by_itself = λ _ _. tt;
       after_last = λ _ _. tt;
@@ -102,14 +98,14 @@ returns-in-Ok-clause-answers g c =
       untouched = tt;
     }
 
-pub returns-in-Ok-clause-opens : goal.returns-in-Ok-clause-opens
-returns-in-Ok-clause-opens g c =
+pub returns-clause-opens : goal.returns-clause-opens
+returns-clause-opens g c =
     let mid = c.hold.new.self in
     let new = c.give.new.self in
-    let few = c.in-Ok.ensures.opens in
+    let few = c.in_ok-hold.ensures.opens in
     let held = c.give.ensures.held in
-    let same : spare new.held new.cache.last ≡ spare mid.held mid.cache.last =
-    ap (λ h. spare h new.cache.last) held.held ∙ ap (λ l. spare mid.held l) held.last in
+    let same : spare new.place.held new.cache.first.last ≡ spare mid.place.held mid.cache.first.last =
+    ap (λ h. spare h new.cache.first.last) held.held ∙ ap (λ l. spare mid.place.held l) held.last in
     record {
       counts = omega (arith, held.opens, few.counts);
       most = omega (arith, held.opens, few.most);
@@ -118,12 +114,12 @@ returns-in-Ok-clause-opens g c =
       spent = omega (arith, held.opens, held.number, few.spent);
     }
 
-pub returns-in-Ok-clause-chunks : goal.returns-in-Ok-clause-chunks
-returns-in-Ok-clause-chunks g c =
+pub returns-clause-chunks : goal.returns-clause-chunks
+returns-clause-chunks g c =
     let self = c.args.self.now in
     let mid = c.hold.new.self in
     let new = c.give.new.self in
-    let done = c.in-Ok.ensures in
+    let done = c.in_ok-hold.ensures in
     let given = c.give.ensures in
     let apart : IsAfterLast self → ⊥ = c.is_after_last.ensures.no c.if-is_after_last.false in
     record {
@@ -131,21 +127,27 @@ returns-in-Ok-clause-chunks g c =
       at_end = λ is. absurd (apart is);
       opened = λ none some. subst (λ n. one_more self.opens ≤ n) (sym given.held.opens) (done.holds.opened none);
       uses = λ some.
-          let number : mid.number ≡ place_of self / 65536 = omega (arith, given.count, some, (mid.chunk done.holds.good.1).small, done.stays.place) in
+          let number : mid.place.number ≡ place_of self / 65536 = omega (
+            arith,
+            given.count,
+            some,
+            (mid.chunk done.holds.good.1).small,
+            done.stays.place,
+          ) in
           given.uses some ∙ ap (λ n. Some n) number;
       keeps_last = λ b is. given.held.has b (done.holds.keeps_last b is);
       has = λ here b one. elim here [ inl is ↦ given.held.has b (done.holds.has is b one) | inr is ↦ absurd (apart is) ];
       same_last = λ is. absurd (apart is);
       finds = λ some apart has.
-          let held : new.held ≡ true = given.held.held ∙ done.holds.good.1 in (
+          let held : new.place.held ≡ true = given.held.held ∙ done.holds.good.1 in (
             given.held.good,
-            comes new.held new.number new.at new.cache held ((new.chunk held).in_chunk) ((new.chunk held).small)
+            comes new.place.held new.place.number new.place.at new.cache held ((new.chunk held).in_chunk) ((new.chunk held).small)
                 ((new.chunk held).full) ((new.chunk held).first) apart has,
           );
     }
 
 pub give-requires-clause-good : goal.give-requires-clause-good
-give-requires-clause-good g c = c.in-Ok.ensures.holds.good.0
+give-requires-clause-good g c = c.in_ok-hold.ensures.holds.good.0
 
 pub give-requires-clause-held : goal.give-requires-clause-held
-give-requires-clause-held g c = c.in-Ok.ensures.holds.good.1
+give-requires-clause-held g c = c.in_ok-hold.ensures.holds.good.1

@@ -1,50 +1,50 @@
 use Rattle.age_error.specs.declared.io.Error.TheVariants.{OutOfMemory}
 use Rattle.age_io.specs.Cursor.{IsOutside}
-use Rattle.std.proofs.Common.{ap, ◌≢◌, ◌≡◌, ◌-◌, ◌+◌, ◌∙◌, arith, length, refl, subst, length-drop, IsTrue, ◌&&◌}
+use Rattle.std.proofs.Common.{ap, ◌≢◌, ◌≡◌, ◌-◌, ◌+◌, ◌∙◌, arith, length, refl, subst, length-drop}
 use Rattle.age_io.specs.Stretch.{from_place}
 use Rattle.age_stream.specs.ReadingLemmas.{and-left, and-right}
-use Rattle.age_stream.proofs.Asking.{reader-asked}
 use Rattle.age_stream.proofs.Named.{sought-named}
 use Rattle.age_stream.proofs.Inner.{start-at, payload-place, refused-start}
-use Rattle.age_stream.proofs.reader.StreamReader.stand.Goals as goal
+use Rattle.age_stream.proofs.source.Source.stand.Goals as goal
 
 pub invariant_of-self : goal.invariant_of-self
 invariant_of-self g c =
     let self = c.args.self.now in
     let seek = c.in-Err.ensures.seeks in
-    reader-asked self c.seek_retrying.new.reader self.taken self.sealed.items self.failed c.requires.failed self.room seek.same_tells
-    seek.same_steady seek.same_content
-    (λ told. omega (arith, seek.stays (and-left _ _ told), (self.sound told).fits))
+    record {
+      size = self.size;
+      fits = λ told.
+          let t = rw (seek.same_tells, seek.same_steady) at told in
+          omega (arith, seek.stays (and-left _ _ t), self.fits t);
+    }
 
 pub invariant_of-self-in-Ok : goal.invariant_of-self-in-Ok
 invariant_of-self-in-Ok g c =
     let self = c.args.self.now in
     let read = g.R.Read in
     let seek = c.in-Ok.ensures.seeks in
-    let after = c.seek_retrying.new.reader in
-    let taken : (told : IsTrue (read.tells self.inner && read.steady self.inner))
-    → c.args.place + (read.place self.inner - self.taken) ≡ read.place after = λ told.
-    let t = and-left (read.tells self.inner) (read.steady self.inner) told in
-    let s = and-right (read.tells self.inner) (read.steady self.inner) told in
-    let target = start-at _ (read.place self.inner) (length (read.content self.inner).bytes) c.in-Ok.field-0 (seek.moves t s).0 in
-    omega (
-      arith,
-      seek.arrives t,
-      target,
-      c.saturating_add.ensures,
-      c.requires.start told,
-      c.requires.within told,
-      length-drop (read.place self.inner - self.taken) (read.content self.inner).bytes,
-      g.met.R.Read.short self.inner t,
-      g.met.R.Read.place_fits self.inner t,
-    ) in
-    reader-asked self after c.args.place self.sealed.items self.failed c.requires.failed self.room seek.same_tells seek.same_steady
-    seek.same_content taken
+    record {
+      size = self.size;
+      fits = λ told.
+          let was = rw (seek.same_tells, seek.same_steady) at told in
+          let t = and-left (read.tells self.inner) (read.steady self.inner) was in
+          let s = and-right (read.tells self.inner) (read.steady self.inner) was in
+          let target = start-at _ (read.place self.inner) (length (read.content self.inner).bytes) c.in-Ok.field-0 (seek.moves t s).0 in
+          omega (
+            arith,
+            seek.arrives t,
+            target,
+            c.saturating_add.ensures,
+            c.requires.start was,
+            c.requires.within was,
+            length-drop (read.place self.inner - self.taken) (read.content self.inner).bytes,
+            g.met.R.Read.short self.inner t,
+            g.met.R.Read.place_fits self.inner t,
+          );
+    }
 
 pub returns-in-Err-clause-refused : goal.returns-in-Err-clause-refused
 returns-in-Err-clause-refused g c = record {
-  fails = c.requires.failed;
-  place = refl;
   refusal = c.lost.ensures.refusal;
   cause = λ told well memory quiet.
       let self = c.args.self.now in
