@@ -3,8 +3,10 @@
 # their script makes, every proof from nothing, the edits that must be refused, the tests and the programs' stored runs, and then `sazh` on real files,
 # as each level of processors has it compiled, `agebench` on damaged input, with failing memory, reads and writes, and `age_c` from other languages.
 # The lines of the long parts begin with the minutes and seconds since the start; the last line counts all of them.
+# With --all it also tries every edit that stands in edits/, whatever edits/TRIED says of it.
 set -uo pipefail
 cd "$(dirname "$0")"
+case $* in '' | --all) ;; *) echo 'usage: ./test.sh [--all]' >&2; exit 2 ;; esac
 log=$(mktemp -d)
 trap 'rm -rf "$log"' EXIT
 status=0
@@ -17,6 +19,8 @@ stamped() {
 
 # Before the long part: `rt ci` passes over a line of an edit that it doesn't know, and would try less than the edit says.
 edits/run.sh --apply || exit 1
+# Whether the edits that the gate leaves out were tried on what stands here.
+edits/run.sh --check || exit 1
 # Whether the table of public names is complete, and the page of the definitions that a reader trusts is what the sources say.
 scripts/names.py || exit 1
 scripts/trusted.py --check || exit 1
@@ -58,6 +62,14 @@ runs() {
     [ -n "$counted" ] || { counted='0 passed, 1 failed'; status=1; }
 }
 
+# The edits that the gate leaves out.
+edits='0 passed, 0 failed'
+if [ "$*" = --all ]; then
+    edits/run.sh 2>&1 | tee "$log/edits" | stamped || status=1
+    edits=$(grep -E '^[0-9]+ passed, [0-9]+ failed$' "$log/edits" | tail -n 1)
+    [ -n "$edits" ] || { edits='0 passed, 1 failed'; status=1; }
+fi
+
 echo "sazh on real files:"
 runs files crates/sazh/out/sazh python3 tests/sazh/run.py
 files=$counted
@@ -93,17 +105,19 @@ if command -v cc > /dev/null && command -v python3 > /dev/null; then
 fi
 
 read -r gate_passed _ gate_failed _ <<<"$gate"
+read -r edits_passed _ edits_failed _ <<<"$edits"
 read -r files_passed _ files_failed _ <<<"$files"
 read -r faults_passed _ faults_failed _ <<<"$faults"
 read -r foreign_passed _ foreign_failed _ <<<"$foreign"
-failed=$((gate_failed + files_failed + better_failed + faults_failed + foreign_failed))
+failed=$((gate_failed + edits_failed + files_failed + better_failed + faults_failed + foreign_failed))
 [ "$failed" -eq 0 ] || status=1
 [ "$status" -eq 0 ] || [ "$failed" -gt 0 ] || failed=1
 echo "gate: $gate"
+[ "$*" != --all ] || echo "edits: $edits"
 echo "files: $files"
 [ "$level" = x86-64-v2 ] || echo "files at $level: $better"
 echo "faults: $faults"
 echo "foreign: $foreign"
 echo "$((SECONDS / 60)) minutes on $(nproc) processors"
-echo "$((gate_passed + files_passed + better_passed + faults_passed + foreign_passed)) passed, $failed failed"
+echo "$((gate_passed + edits_passed + files_passed + better_passed + faults_passed + foreign_passed)) passed, $failed failed"
 exit "$status"
