@@ -3,8 +3,9 @@
 `edits/tried.py` tells as changed or stale. edits/run.sh --check is that script, and edits/run.sh --apply says whether each edit can still be applied.
 
 The gate tries those in crates/CRATE/must-fail/; these here stand beside them, and bend the same functions in other ways. It works in a copy of the
-repository, in which they stand in must-fail/ in place of the gate's, crate by crate, over what crates/*/out keeps. An edit takes 15 to 40 seconds of a
-processor; RT_JOBS=N uses N processors. A crate of which every edit is refused, by a value or an open goal, gets its line in edits/TRIED.
+repository, crate by crate, over what crates/*/out keeps: first many edits in one check (batches.py), then those that this doesn't refuse by `rt must-fail`
+alone, which takes 15 to 40 seconds of a processor for each. RT_JOBS=N uses N processors. A crate of which every edit is refused, by a value or an open
+goal, gets its line in edits/TRIED.
 The last line is 'N passed, M failed': refused, and all else (not refused, refused for a name or by a limit alone, can't be applied, a crate that isn't
 proved).
 """
@@ -19,20 +20,13 @@ import tempfile
 
 sys.dont_write_bytecode = True
 import apply
+import batches
 import tried
 
 REFUSED = re.compile(r"^rt: must-fail [^ ]+: refused, as it must be(?! \(only)", re.MULTILINE)
+# As many jobs as `rt must-fail` takes.
+JOBS = os.environ.get("RT_JOBS") or str(min(4, len(os.sched_getaffinity(0))))
 PARTS = ("src", "specs", "proofs", "out")
-
-
-def link_proved(source, target):
-    """Copies a file of what was proved; by a link where a check replaces such a file, and writes into none."""
-    if source.endswith(".oantt"):
-        try:
-            return os.link(source, target)
-        except OSError:
-            pass
-    return shutil.copy2(source, target)
 
 
 def copy_of(room, names, found):
@@ -43,7 +37,7 @@ def copy_of(room, names, found):
     for name in sorted({*names, *(it for name in names for it in tried.below(name, found))}):
         for part in PARTS:
             if os.path.isdir(f"{tried.TOP}/crates/{name}/{part}"):
-                shutil.copytree(f"{tried.TOP}/crates/{name}/{part}", f"{room}/crates/{name}/{part}", copy_function=link_proved)
+                shutil.copytree(f"{tried.TOP}/crates/{name}/{part}", f"{room}/crates/{name}/{part}", copy_function=batches.link_proved)
     # (`rt` wants a folder for each line)
     kept = set(os.listdir(f"{room}/crates"))
     with open(f"{room}/crates.txt", encoding="utf-8") as file:
@@ -52,34 +46,46 @@ def copy_of(room, names, found):
         file.writelines(lines)
     for name in names:
         shutil.copytree(f"{tried.TOP}/edits/{name}", f"{room}/edits/{name}")
-        shutil.copytree(f"{tried.TOP}/edits/{name}", f"{room}/crates/{name}/must-fail")
 
 
 def run(folder, *words):
     """What a command of `rt` says, line by line as it comes, and its status."""
     said = []
     with subprocess.Popen(["rt", *words], cwd=folder, stdin=subprocess.DEVNULL, stdout=subprocess.PIPE, stderr=subprocess.STDOUT, errors="replace", text=True) as ran:
-        for line in ran.stdout:
-            said.append(line)
-            if words[0] == "must-fail":
-                print(line, end="", flush=True)
+        try:
+            for line in ran.stdout:
+                said.append(line)
+                if words[0] == "must-fail":
+                    print(line, end="", flush=True)
+        except BaseException:
+            # (whoever ends this ends the check too)
+            ran.kill()
+            raise
     return "".join(said), ran.returncode
 
 
 def try_crate(room, name, found):
     """Tries the edits of a crate, and notes it where all are refused. How many are."""
-    told = tried.digests(room, name, found, {})
-    count = len(tried.edits(room, name))
+    told, folder = tried.digests(room, name, found, {}), f"{room}/crates/{name}"
+    edits = tried.edits(room, name)
     # (a crate that isn't proved itself would refuse every edit)
-    said, status = run(f"{room}/crates/{name}", "check")
+    said, status = run(folder, "check", "--jobs", JOBS)
     if status:
         print(f"{said}{name} isn't proved, so its edits weren't tried", flush=True)
         return 0
-    said, _ = run(room, "must-fail", name)
-    refused = len(REFUSED.findall(said))
-    if refused == count:
+    together = batches.refused_together(folder, edits, JOBS)
+    print(f"{name}: {len(together)} of {len(edits)} refused together", flush=True)
+    left = [it for it in edits if it not in together]
+    refused = len(together)
+    if left:
+        os.mkdir(f"{folder}/must-fail")
+        for it in left:
+            shutil.copy2(it, f"{folder}/must-fail")
+        said, _ = run(room, "must-fail", name)
+        refused += len(REFUSED.findall(said))
+    if refused == len(edits):
         tried.write_line(name, told, refused, datetime.date.today().isoformat())
-    print(f"{name}: {refused} of {count} refused, by a value or an open goal", flush=True)
+    print(f"{name}: {refused} of {len(edits)} refused, by a value or an open goal", flush=True)
     return refused
 
 

@@ -82,9 +82,9 @@ def add(digest, path, top, lines):
     digest.update(f"{os.path.relpath(path, top)} {len(text)}\n{text}\n".encode())
 
 
-def face(top, name, found):
+def face(top, name):
     """A digest of what the prover knows of a crate from above."""
-    digest = hashlib.sha256(f"{name}: {sorted(found[name])}\n".encode())
+    digest = hashlib.sha256()
     for path in files(f"{top}/crates/{name}", "src", "specs"):
         lines = said(path)
         add(digest, path, top, without_bodies(lines) if path.endswith(".rt") else lines)
@@ -112,7 +112,7 @@ def logic():
 def digests(top, name, found, faces):
     """What a crate's line says of what its edits are tried on. `faces` keeps the digests that were made."""
     for it in below(name, found):
-        faces[it] = faces.get(it) or face(top, it, found)
+        faces[it] = faces.get(it) or face(top, it)
     under = hashlib.sha256("\n".join(f"{it} {faces[it]}" for it in sorted(below(name, found))).encode()).hexdigest()
     return own(top, name)[:16], under[:16], logic()
 
