@@ -19,8 +19,9 @@ stamped() {
 
 # Before the long part: `rt ci` passes over a line of an edit that it doesn't know, and would try less than the edit says.
 edits/run.sh --apply || exit 1
-# Whether the edits that the gate leaves out were tried on what stands here.
+# Whether the edits that the gate leaves out were tried on what stands here, and whether what says so can be believed.
 edits/run.sh --check || exit 1
+python3 tests/edits/run.py || exit 1
 # Whether the table of public names is complete, and the page of the definitions that a reader trusts is what the sources say.
 scripts/names.py || exit 1
 scripts/trusted.py --check || exit 1

@@ -49,8 +49,9 @@ def owner(line):
 
 
 def functions(path, lines):
-    """The functions of a source that have a body: of each the lines from its attributes to its end, and what it is named after with its name."""
-    module = os.path.basename(path)[: -len(".rt")]
+    """The functions of a source that have a body: of each the lines of its attributes, of its body's beginning and end, and what it is named after with
+    its name."""
+    module = "" if path == "src/lib.rt" else os.path.basename(path)[: -len(".rt")]
     found, of, at = [], None, 0
     while at < len(lines):
         of = owner(lines[at]) or (None if lines[at] == "}" else of)
@@ -60,7 +61,7 @@ def functions(path, lines):
             last, first = lines.index(f"{head[1]}}}", end), at
             while lines[first - 1].lstrip().startswith("#["):
                 first -= 1
-            found.append((first, last, (of if head[1] and of else module, re.match(r"\w+", lines[at][head.end() :])[0])))
+            found.append((first, end, last, (of if head[1] and of else module, re.match(r"\w+", lines[at][head.end() :])[0])))
             at = last
         at += 1
     return found
@@ -93,7 +94,7 @@ def bent(edit, sources, bodies):
         for number, line in enumerate(now):
             if line != sources[path][number]:
                 changed[path, number] = line
-                found |= {(path, first) for first, last, _ in bodies[path] if first < number < last} or {None}
+                found |= {(path, first) for first, body, last, _ in bodies[path] if body < number < last} or {None}
     return None if len(found) != 1 or None in found else (changed, found.pop())
 
 
@@ -107,7 +108,7 @@ def group_of(left):
 
 def refused_in(said, bodies):
     """The functions of which a check says that a goal is open, or that an answer isn't of its goal's type."""
-    every = [((path, first), last, name) for path, found in bodies.items() for first, last, name in found]
+    every = [((path, first), last, name) for path, found in bodies.items() for first, _, last, name in found]
     places = [(path, int(line) - 1) for path, line in OPEN.findall(said)]
     found = {at for at, last, _ in every for path, line in places if at[0] == path and at[1] <= line <= last}
     for path, why in ANSWER.findall(said):
@@ -143,6 +144,16 @@ def check(folder, sources, changes, jobs):
     return ran.stdout if ran.returncode == 1 and "\nlogic=not-proved" in ran.stdout else ""
 
 
+def refused_of(group, left, folder, sources, bodies, jobs):
+    """The edits of a group that a check refuses. Where one of them keeps the check from its end, each half is tried for itself."""
+    said = check(folder, sources, [it for edit in group for it in left[edit][0].items()], jobs)
+    if not said and len(group) > 1:
+        half = len(group) // 2
+        return [it for part in (group[:half], group[half:]) for it in refused_of(part, left, folder, sources, bodies, jobs)]
+    open_goals = refused_in(said, bodies)
+    return [edit for edit in group if left[edit][1] in open_goals]
+
+
 def refused_together(folder, edits, jobs):
     """The edits that checks of many at once refuse."""
     sources = sources_of(folder)
@@ -151,8 +162,7 @@ def refused_together(folder, edits, jobs):
     left, refused = {edit: it for edit, it in left.items() if it}, []
     while left:
         group = group_of(left)
-        open_goals = refused_in(check(folder, sources, [it for edit in group for it in left[edit][0].items()], jobs), bodies)
-        done = [edit for edit in group if left[edit][1] in open_goals]
+        done = refused_of(group, left, folder, sources, bodies, jobs)
         refused += done
         for edit in done or group:
             del left[edit]
