@@ -12,8 +12,8 @@ chain above it first, with most of the processors' time and by as many jobs as t
 chain is nearly as long by half as many, the others by one. `rt` locks a crate and all below it, so each is proved in a folder
 of its own, with the libraries below it beside it. Exit status 3 where a crate isn't proved, 2 where the disk has too little room.
 
-Ended by TERM, HUP or INT it ends all that it started, and its exit status is 128 and the signal's number. What was proved until then is kept. Two of
-them in one clone work one after the other.
+Ended by TERM, HUP or INT it ends all that it started, and its exit status is 128 and the signal's number. What was proved until then is kept. So it
+ends with a script that waits for it and has its own number in SAZH_WAITS. Two of them in one clone work one after the other.
 
 The program is compiled for the level of the processors here, x86-64-v3 where they have all of it and x86-64-v2 elsewhere, or for the
 one that SAZH_CPU names, as for a program that is carried to another machine. The proofs are the same: for another level the program alone is
@@ -68,11 +68,13 @@ class Ended(Exception):
 
 
 def listen():
-    """Notes a signal that tells it to end, so that it ends at a place where it knows all that it has started."""
+    """Notes a signal that tells it to end, also the end of the script that waits for it: so it ends where it knows all that it has started."""
     for it in (signal.SIGTERM, signal.SIGHUP, signal.SIGINT):
         # (`nohup`, and a shell for what it runs beside itself, has one ignored: it stays so)
         if signal.getsignal(it) is not signal.SIG_IGN:
             signal.signal(it, lambda number, _: TOLD.append(number))
+    if os.environ.get("SAZH_WAITS") == str(os.getppid()):
+        PRCTL(PARENT_DEATH_SIGNAL, signal.SIGTERM)
 
 
 def end_if_told():

@@ -53,6 +53,7 @@ class Tries:
             self.ends(f"build.py has {old}", text.count(f"\n{old}\n") == 1)
             text = text.replace(f"\n{old}\n", f"\n{new}\n")
         (self.top / "build.py").write_text(text, "utf-8")
+        shutil.copy(TOP / "sazh", self.top)
         (self.top / "crates.txt").write_text("".join(f"{name}: {below}\n" for name, (below, _) in CRATES.items()), "ascii")
         for name, (_, lines) in CRATES.items():
             source = self.top / "crates" / name.split()[0] / "src"
@@ -60,8 +61,9 @@ class Tries:
             (source / "lib.rt").write_text("line\n" * lines, "ascii")
         self.log.write_text("", "ascii")
 
-    def begins(self, *words, before=(), **environment):
-        words = [*before, sys.executable, self.top / "build.py", *(words or ("sazh", "--version"))]
+    def begins(self, *words, before=(), script=False, **environment):
+        build = [self.top / "sazh"] if script else [sys.executable, self.top / "build.py"]
+        words = [*before, *build, *(words or ("sazh", "--version"))]
         how = {"stdin": subprocess.DEVNULL, "stdout": subprocess.PIPE, "stderr": subprocess.STDOUT, "text": True}
         return subprocess.Popen(words, env={**self.environment, "FAKE_SECONDS": "0.05", **environment}, **how)
 
@@ -147,7 +149,7 @@ def told_to_end(tries):
         tries.fresh()
         process = tries.begins()
         tries.waits_for(f"{number.name}: slow is begun", lambda: "slow" in tries.begun())
-        tries.ends(f"{number.name}: more than build.py is at work", len(tries.at_work()) > 3)
+        tries.waits_for(f"{number.name}: what `rt` starts is at work", lambda: any(it.startswith(b"sleep") for it in tries.at_work()))
         process.send_signal(number)
         said = process.communicate(timeout=30)[0].splitlines()
         tries.ends(f"{number.name}: status {process.returncode}", process.returncode == 128 + number)
@@ -157,6 +159,16 @@ def told_to_end(tries):
         status, lines = tries.builds(FAKE_SECONDS="0")
         begun = [tries.begun().count(it) for it in ("low", "slow")]
         tries.ends(f"{number.name}: the next goes on: {status}, {lines}", status == 0 and begun == [1, 2])
+    tries.fresh()
+    process = tries.begins(script=True)
+    tries.waits_for("./sazh: slow is begun", lambda: "slow" in tries.begun())
+    process.terminate()
+    said = process.communicate(timeout=30)[0].splitlines()
+    tries.ends(f"./sazh: {process.returncode}, {said}", process.returncode == -signal.SIGTERM and "ended by SIGTERM" in said[-1])
+    tries.waits_for("./sazh: no process is left", lambda: not tries.at_work())
+    tries.is_clean("./sazh")
+    status, lines = tries.builds(script=True, FAKE_SECONDS="0")
+    tries.ends(f"./sazh goes on and runs the program: {status}, {lines}", status == 0 and lines[-1] == "it runs" and tries.begun().count("low") == 1)
     tries.fresh()
     process = tries.begins(before=["nohup"], FAKE_SECONDS="0.02")
     tries.waits_for("nohup: low is begun", lambda: "low" in tries.begun())
