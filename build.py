@@ -51,8 +51,6 @@ MEMORY = 1.5
 DISK = 8
 # After how many seconds it says again what it is at.
 EVERY = 60
-# A crate that takes no longer than these seconds was proved by an earlier run, and says nothing of how fast this one is.
-KEPT = 5
 # By their numbers in Linux: what a process gets when the one that started it ends, and whether it gets the processes below it whose parent ends.
 PARENT_DEATH_SIGNAL, CHILD_SUBREAPER = 1, 36
 PRCTL = ctypes.CDLL(None).prctl
@@ -282,12 +280,22 @@ class Run:
         if name == PROGRAM:
             built = ["rt", "lib" if STATIC else "run", f"--cpu={cpu}", "--jobs", str(jobs)]
             words = built if STATIC else [*built, "--", *WORDS]
+        self.found = self.made_at()
         self.log = f"{self.room}/log"
         with open(self.log, "wb") as log:
             self.process = subprocess.Popen(words, cwd=folder, stdin=subprocess.DEVNULL, stdout=log, stderr=log, preexec_fn=begin_apart)
 
     def seconds(self):
         return time.monotonic() - self.began
+
+    def made_at(self):
+        """When its library was made, or None where there is none."""
+        folder = f"{self.room}/crates/{self.name}/out/rlib"
+        return os.stat(folder).st_mtime_ns if os.path.isdir(folder) else None
+
+    def was_kept(self):
+        """Whether an earlier run had proved it: then its time says nothing of how fast this one is."""
+        return self.found is not None and self.found == self.made_at()
 
     def keep(self):
         """Puts what was built into its place."""
@@ -378,7 +386,7 @@ class Build:
             say(f"{run.name} could not be proved")
             return False
         self.running.remove(run)
-        if run.seconds() > KEPT:
+        if not run.was_kept():
             self.past.append((run.jobs, self.weight[run.name], run.seconds()))
         run.keep()
         self.done.add(run.name)

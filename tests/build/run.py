@@ -20,8 +20,9 @@ TOP = HERE.parents[1]
 CRATES = {"low": ("", 12), "side": ("", 20), "slow": ("low", 16), "sazh": ("side slow", 18), "age_c staticlib": ("low", 3)}
 # What it says of its work: what is proved, how many are left, and what the rest is guessed to take.
 TOLD = r"sazh: +\d+\.\d min: proving (\w+ \(\d+\.\d min\)(?: and \w+ \(\d+\.\d min\))?), (\d) left(, some \d+ min more)?"
+PROVED = re.compile(r"sazh: +\d+\.\d min: (\w+) is proved, (\d) left")
 # What the tests have shorter than it is.
-SHORTER = {"EVERY = 60": "EVERY = 0.3", "KEPT = 5": "KEPT = 0.25"}
+SHORTER = {"EVERY = 60": "EVERY = 0.3"}
 
 
 class Tries:
@@ -128,7 +129,7 @@ def whole(tries):
     status, lines = tries.builds()
     tries.ends(f"a whole build: {status}, {lines}", status == 0 and lines[0].startswith("sazh: proving 4 crates on "))
     tries.ends("each crate once", sorted(tries.begun()) == ["low", "sazh", "side", "slow"] and tries.begun()[-1] == "sazh")
-    proved = [re.fullmatch(r"sazh: +\d+\.\d min: (\w+) is proved, (\d) left", it) for it in lines]
+    proved = [PROVED.fullmatch(it) for it in lines]
     tries.ends(f"each is told: {lines}", [it[2] for it in proved if it] == ["3", "2", "1", "0"])
     told = [(i, re.fullmatch(TOLD, it)) for i, it in enumerate(lines)]
     told, first = [(i, it) for i, it in told if it], next((i for i, it in enumerate(proved) if it), 0)
@@ -156,7 +157,10 @@ def told_to_end(tries):
         last = f"sazh: ended by {number.name}; what was proved is kept, and the next run goes on from there"
         tries.ends(f"{number.name}: {said}", said[-1] == last and sum("ended" in it for it in said) == 1)
         tries.is_clean(number.name)
-        status, lines = tries.builds(FAKE_SECONDS="0")
+        before = {it[1] for it in map(PROVED.fullmatch, said) if it}
+        status, lines = tries.builds(**({} if number == signal.SIGTERM else {"FAKE_SECONDS": "0"}))
+        known = next(i for i, it in enumerate(map(PROVED.fullmatch, lines)) if it and it[1] not in before)
+        tries.ends(f"{number.name}: what is kept says nothing of the time: {lines}", not any("more" in it for it in lines[:known]))
         begun = [tries.begun().count(it) for it in ("low", "slow")]
         tries.ends(f"{number.name}: the next goes on: {status}, {lines}", status == 0 and begun == [1, 2])
     tries.fresh()
