@@ -2,21 +2,26 @@
 """Stands for `rt` in the tests of build.py, as KIT/bin/rt: makes the files that build.py looks for, and takes its time.
 
 Like the kit's, it starts what works for it in a group of its own, under a shell that ends that group as soon as `rt` is gone. The
-environment tells it: FAKE_LOG, where it writes each crate that it begins with; FAKE_SECONDS for a line of code; FAKE_REFUSES, a crate.
+environment tells it: FAKE_LOG, where it writes each crate that it begins with; FAKE_SECONDS for a line of code; FAKE_REFUSES and FAKE_STAYS,
+a crate that isn't proved and one that never ends.
 """
 
 import os
 import pathlib
+import signal
 import subprocess
 import sys
 import time
 
 
 def guarded(*words):
-    """Runs this as the kit's `rt` does."""
+    """Runs this as the kit's `rt` does, and says how it ended. The shell is slow, as on a machine with much to do."""
     ends, _held = os.pipe()
-    guard = subprocess.Popen(["sh", "-c", "read _; kill -9 0"], preexec_fn=os.setpgrp, stdin=ends)
-    return subprocess.Popen(words, stdin=subprocess.DEVNULL, preexec_fn=lambda: os.setpgid(0, guard.pid))
+    guard = subprocess.Popen(["sh", "-c", "read _; sleep 0.5; kill -9 0"], preexec_fn=os.setpgrp, stdin=ends)
+    status = subprocess.call(words, stdin=subprocess.DEVNULL, preexec_fn=lambda: os.setpgid(0, guard.pid))
+    os.killpg(guard.pid, signal.SIGKILL)
+    guard.wait()
+    return status
 
 
 def uses():
@@ -38,8 +43,8 @@ def main(verb, *words):
             print(f"{name}: {it} isn't there")
             return 1
     lines = pathlib.Path("src/lib.rt").read_text("utf-8").count("\n")
-    worker = guarded("sleep", str(lines * float(os.environ.get("FAKE_SECONDS", "0"))))
-    status = worker.wait()
+    seconds = 200 if os.environ.get("FAKE_STAYS") == name else lines * float(os.environ["FAKE_SECONDS"])
+    status = guarded("sleep", str(seconds))
     if status or os.environ.get("FAKE_REFUSES") == name:
         print(f"{name}: an open goal")
         return 1

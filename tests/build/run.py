@@ -95,6 +95,10 @@ class Tries:
                 pass
         return found
 
+    def stays(self):
+        """Whether what works for the crate that never ends is at work."""
+        return b"sleep\x00200\x00" in self.at_work()
+
     def is_clean(self, what):
         self.ends(f"{what}: no process is left: {self.at_work()}", not self.at_work())
         self.ends(f"{what}: no folder is left", not os.listdir(self.temporary) and not (self.top / "out/moved").exists())
@@ -148,11 +152,12 @@ def told_to_end(tries):
     """It ends at a signal with all that it started, and keeps what is proved."""
     for number in (signal.SIGTERM, signal.SIGHUP, signal.SIGINT):
         tries.fresh()
-        process = tries.begins()
-        tries.waits_for(f"{number.name}: slow is begun", lambda: "slow" in tries.begun())
-        tries.waits_for(f"{number.name}: what `rt` starts is at work", lambda: any(it.startswith(b"sleep") for it in tries.at_work()))
+        process = tries.begins(FAKE_STAYS="slow")
+        tries.waits_for(f"{number.name}: slow is at work", tries.stays)
         process.send_signal(number)
+        start = time.monotonic()
         said = process.communicate(timeout=30)[0].splitlines()
+        tries.ends(f"{number.name}: it ends at once", time.monotonic() - start < 8)
         tries.ends(f"{number.name}: status {process.returncode}", process.returncode == 128 + number)
         last = f"sazh: ended by {number.name}; what was proved is kept, and the next run goes on from there"
         tries.ends(f"{number.name}: {said}", said[-1] == last and sum("ended" in it for it in said) == 1)
@@ -164,8 +169,8 @@ def told_to_end(tries):
         begun = [tries.begun().count(it) for it in ("low", "slow")]
         tries.ends(f"{number.name}: the next goes on: {status}, {lines}", status == 0 and begun == [1, 2])
     tries.fresh()
-    process = tries.begins(script=True)
-    tries.waits_for("./sazh: slow is begun", lambda: "slow" in tries.begun())
+    process = tries.begins(script=True, FAKE_STAYS="slow")
+    tries.waits_for("./sazh: slow is at work", tries.stays)
     process.terminate()
     said = process.communicate(timeout=30)[0].splitlines()
     tries.ends(f"./sazh: {process.returncode}, {said}", process.returncode == -signal.SIGTERM and "ended by SIGTERM" in said[-1])
@@ -184,8 +189,8 @@ def told_to_end(tries):
 def killed(tries):
     """Killed, it takes what it started with it and leaves no lock; its folder goes at the next start."""
     tries.fresh()
-    process = tries.begins()
-    tries.waits_for("KILL: slow is begun", lambda: "slow" in tries.begun())
+    process = tries.begins(FAKE_STAYS="slow")
+    tries.waits_for("KILL: slow is at work", tries.stays)
     process.kill()
     process.communicate(timeout=30)
     tries.waits_for("KILL: no process is left", lambda: not tries.at_work())
