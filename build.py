@@ -447,7 +447,7 @@ def look_for_room(uses):
     """Refuses to begin where the disk has too little room for the libraries that were never built here."""
     libraries = {name: work(name) for name in below(PROGRAM, uses)}
     new = sum(it for name, it in libraries.items() if not os.path.isdir(f"{TOP}/crates/{name}/out/rlib/{name}.rlib"))
-    needed = DISK * new / sum(libraries.values())
+    needed = DISK * new / max(1, sum(libraries.values()))
     temporary = tempfile.gettempdir()
     # (what is proved moves from the second to the first; on a disk of its own the second has what is proved now, over copies)
     places = {os.stat(temporary).st_dev: (temporary, needed / 2), os.stat(TOP).st_dev: (TOP, needed)}
