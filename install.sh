@@ -8,7 +8,7 @@ if [ "${1-}" = --built ]; then
     shift
     [ -x "$program" ] || { echo "install.sh: sazh isn't built yet: leave out --built" >&2; exit 1; }
 else
-    python3 "$top/build.py" sazh --version </dev/null
+    SAZH_WAITS=$$ python3 "$top/build.py" sazh --version </dev/null
 fi
 case $# in
     0) prefix=/usr/local ;;

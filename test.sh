@@ -44,6 +44,9 @@ if ! diff <(sed -n '/^```rust$/,/^```$/p' README.md | sed '1d;$d') <(grep -v '^/
     exit 1
 fi
 
+# Whether `build.py` says what it is at, and how it ends, over a `rt` that proves nothing.
+python3 tests/build/run.py || exit 1
+
 # (`rt ci` puts back what it found here, also the libraries of an `rt ci` before: these go)
 for it in crates/*/out/rlib; do
     [ -e "$it/stamp" ] || rm -rf "$it"
@@ -89,6 +92,9 @@ if [ "$level" != x86-64-v2 ]; then
     better=$counted
     read -r better_passed _ better_failed _ <<<"$better"
 fi
+echo "README's first line, which runs sazh unproved:"
+runs first crates/sazh/out/sazh python3 tests/sazh/first.py
+first=$counted
 echo "agebench with failing memory, reads and writes, and on damaged payloads:"
 runs faults crates/agebench/out/agebench python3 tests/faults/run.py
 faults=$counted
@@ -108,17 +114,20 @@ fi
 read -r gate_passed _ gate_failed _ <<<"$gate"
 read -r edits_passed _ edits_failed _ <<<"$edits"
 read -r files_passed _ files_failed _ <<<"$files"
+read -r first_passed _ first_failed _ <<<"$first"
 read -r faults_passed _ faults_failed _ <<<"$faults"
 read -r foreign_passed _ foreign_failed _ <<<"$foreign"
-failed=$((gate_failed + edits_failed + files_failed + better_failed + faults_failed + foreign_failed))
+failed=$((gate_failed + edits_failed + files_failed + better_failed + first_failed + faults_failed + foreign_failed))
 [ "$failed" -eq 0 ] || status=1
 [ "$status" -eq 0 ] || [ "$failed" -gt 0 ] || failed=1
 echo "gate: $gate"
 [ "$*" != --all ] || echo "edits: $edits"
 echo "files: $files"
 [ "$level" = x86-64-v2 ] || echo "files at $level: $better"
+echo "README: $first"
 echo "faults: $faults"
 echo "foreign: $foreign"
 echo "$((SECONDS / 60)) minutes on $(nproc) processors"
-echo "$((gate_passed + edits_passed + files_passed + better_passed + faults_passed + foreign_passed)) passed, $failed failed"
+passed=$((gate_passed + edits_passed + files_passed + better_passed + first_passed + faults_passed + foreign_passed))
+echo "$passed passed, $failed failed"
 exit "$status"

@@ -12,7 +12,7 @@ top=$(cd "$(dirname "$0")/.." && pwd)
 key=000102030405060708090a0b0c0d0e0f101112131415161718191a1b1c1d1e1f
 "$top/agebench" seal "$key" </dev/null >/dev/null
 "$top/sazh" --version >/dev/null
-python3 "$top/build.py" bench_probe seeks "$top/crates/bench_probe/data/payload" </dev/null
+SAZH_WAITS=$$ python3 "$top/build.py" bench_probe seeks "$top/crates/bench_probe/data/payload" </dev/null
 folder=$(mktemp -d -p "${TMPDIR:-/tmp}")
 trap 'rm -rf "$folder"' EXIT
 python3 - "$folder" "$top" "$key" "$size" <<'PYTHON'

@@ -3,5 +3,5 @@
 # Both are compiled for the level of the processors here, or for the one that SAZH_CPU names (x86-64-v2 or x86-64-v3).
 set -euo pipefail
 top=$(cd "$(dirname "$0")/.." && pwd)
-python3 "$top/build.py" age_c < /dev/null
+SAZH_WAITS=$$ python3 "$top/build.py" age_c < /dev/null
 "$top/foreign/link.sh" "$top/crates/age_c/out/libage_c.a" "$top/foreign/out"
