@@ -1,6 +1,6 @@
-//! Calls of `age_bech32`: `decode TEXT` and `decode_array SIZE TEXT`, which answer a prefix and bytes, and for an array of another size the prefix and
-//! `none`; `encode PREFIX BYTES` and `encode_array SIZE PREFIX BYTES`, which answer a text. A refusal is the error's text, and `none` where the answer is
-//! an array. `out_of_memory` answers the text of that error. Arrays have the sizes that the rows name.
+//! Calls of `age_bech32`: `decode TEXT` and `decode_array SIZE TEXT`, which answer a prefix and bytes, and for an array of another size the prefix
+//! and `none`; `encode PREFIX BYTES` and `encode_array SIZE PREFIX BYTES`, which answer a text. A refusal is the error's text, and `none` where the
+//! answer is an array. `out_of_memory` answers the text of that error. A size is one of those that rows name.
 
 ghost use Rattle.std.specs.Prelude.{◌<◌, ◌^◌};
 

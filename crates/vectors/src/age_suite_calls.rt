@@ -1,5 +1,5 @@
-//! Calls of `age_suite`: `draw BYTES SIZE ..`, which takes so many bytes in turn, and answers each time those that were drawn, or `none`, and how many
-//! are left then; `debug_draw BYTES`, before three bytes are drawn and after it; and `debug_opens`, after a count.
+//! Calls of `age_suite`: `draw BYTES SIZE ..`, which takes so many bytes in turn, and answers each time those that were drawn, or `none`, and
+//! how many are left then; `debug_draw BYTES`, before three bytes are drawn and after it; and `debug_opens`, after a count.
 
 use crate::words::{Fault, both, bytes, debugged, said, shown};
 use age_suite::draw::Draw;

@@ -1,7 +1,8 @@
-//! Calls of `chacha20poly1305`, each with a key and a nonce before what is named here: `one_time_key`; `seal PLAINTEXT`; `open SEAL`, which answers
-//! `none` where it is refused; `end PLAINTEXT`, the seal's length and its last 16 bytes; `seal_and_open PLAINTEXT`, whether the seal opens to the
-//! plaintext; `open_changed SEAL` and `open_cut SEAL`, the first byte that could be changed, and the first length that the seal could be cut to, with no
-//! refusal; `open_changed_at PLAINTEXT PLACE` and `open_cut_to PLAINTEXT COUNT`, the same of one place in the seal of a plaintext.
+//! Calls of `chacha20poly1305`, each with a key and a nonce before what is named here: `one_time_key`; `seal PLAINTEXT`; `open SEAL`, which
+//! answers `none` where it is refused; `end PLAINTEXT`, the seal's length and its last 16 bytes; `seal_and_open PLAINTEXT`, whether the seal
+//! opens to the plaintext; `open_changed SEAL` and `open_cut SEAL`, the first place where a bit may be changed, and the first length that the
+//! seal may be cut to, with no refusal; `open_changed_at PLAINTEXT PLACE` and `open_cut_to PLAINTEXT COUNT`, what the seal of a plaintext opens
+//! to that is changed or cut so.
 
 use crate::words::{Fault, array, both, bytes, number, said, shown, told};
 use chacha20poly1305::{one_time_key, open, seal};

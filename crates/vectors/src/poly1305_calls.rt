@@ -1,5 +1,5 @@
-//! Calls of `poly1305`: `poly1305_mac KEY TEXT`; `verify KEY TEXT TAG`, of a text that is given whole; `verify_in_two KEY FRONT BACK TAG`, of one that
-//! is given in two pieces; `verify_cut KEY TEXT TAG`, whether that is so wherever the text is cut in two; and `debug KEY`.
+//! Calls of `poly1305`: `poly1305_mac KEY TEXT`; `verify KEY TEXT TAG`, of a text that is given whole; `verify_in_two KEY FRONT BACK TAG`, of
+//! one that is given in two pieces; `verify_cut KEY TEXT TAG`, whether that is so wherever the text is cut in two; and `debug KEY`.
 
 use crate::words::{Fault, array, bytes, debugged, shown, told};
 use poly1305::{Poly1305, poly1305_mac};
