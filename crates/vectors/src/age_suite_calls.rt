@@ -1,12 +1,16 @@
 //! Calls of `age_suite`: `draw BYTES SIZE ..`, which takes so many bytes in turn, and answers each time those that were drawn, or `none`, and
 //! how many are left then; `debug_draw BYTES`, before three bytes are drawn and after it; and `debug_opens`, after a count.
 
+ghost use Rattle.std.specs.Prelude.{◌<◌, ◌^◌};
+
 use crate::words::{Fault, both, bytes, debugged, said, shown};
 use age_suite::draw::Draw;
 use age_suite::suite::Opens;
 use std::alloc::Global;
 
-fn taken<const N: usize>(alloc: Global, draw: &mut Draw) -> Result<String, Fault> {
+fn taken<const N: usize>(alloc: Global, draw: &mut Draw) -> Result<String, Fault>
+    requires { N < 2 ^ 63 }
+{
     match draw.take::<N>() {
         Some(bytes) => shown(alloc, &bytes),
         None => said(alloc, "none"),
