@@ -4,7 +4,7 @@
 
 ghost use Rattle.std.specs.Prelude.{◌<◌, ◌^◌};
 
-use crate::words::{Fault, both, bytes, number, refused, said, shown, text};
+use crate::words::{Fault, both, number, refused, said, shown, text};
 use age_bech32::{Bech32Error, decode, decode_array, encode, encode_array};
 use std::alloc::Global;
 
@@ -12,22 +12,21 @@ fn parts(alloc: Global, prefix: &str, data: &[u8]) -> Result<String, Fault> {
     both(alloc, prefix, &shown(alloc, data)?)
 }
 
-fn decoded(alloc: Global, words: &[&str]) -> Result<String, Fault> {
-    let [word] = words else {
+fn decoded(alloc: Global, args: &[Vec<u8>]) -> Result<String, Fault> {
+    let [word] = args else {
         return Err(Fault::Count);
     };
-    match decode(alloc, &text(alloc, word)?) {
+    match decode(alloc, text(word)?) {
         Ok((prefix, data)) => parts(alloc, &prefix, &data),
         Err(error) => refused(alloc, &error),
     }
 }
 
-fn encoded(alloc: Global, words: &[&str]) -> Result<String, Fault> {
-    let [prefix, data] = words else {
+fn encoded(alloc: Global, args: &[Vec<u8>]) -> Result<String, Fault> {
+    let [prefix, data] = args else {
         return Err(Fault::Count);
     };
-    let prefix = text(alloc, prefix)?;
-    match encode(alloc, &prefix, &bytes(alloc, data)?) {
+    match encode(alloc, text(prefix)?, data) {
         Ok(text) => Ok(text),
         Err(error) => refused(alloc, &error),
     }
@@ -43,7 +42,7 @@ fn read<const N: usize>(alloc: Global, text: &str) -> Result<String, Fault>
     }
 }
 
-fn read_sized(alloc: Global, size: usize, text: &str) -> Result<String, Fault> {
+fn read_sized(alloc: Global, size: u64, text: &str) -> Result<String, Fault> {
     match size {
         0 => read::<0>(alloc, text),
         20 => read::<20>(alloc, text),
@@ -58,11 +57,11 @@ fn read_sized(alloc: Global, size: usize, text: &str) -> Result<String, Fault> {
     }
 }
 
-fn decoded_array(alloc: Global, words: &[&str]) -> Result<String, Fault> {
-    let [size, word] = words else {
+fn decoded_array(alloc: Global, args: &[Vec<u8>]) -> Result<String, Fault> {
+    let [size, word] = args else {
         return Err(Fault::Count);
     };
-    read_sized(alloc, number(size)?, &text(alloc, word)?)
+    read_sized(alloc, number(size)?, text(word)?)
 }
 
 fn write<const N: usize>(alloc: Global, prefix: &str, data: &[u8]) -> Result<String, Fault>
@@ -77,7 +76,7 @@ fn write<const N: usize>(alloc: Global, prefix: &str, data: &[u8]) -> Result<Str
     }
 }
 
-fn write_sized(alloc: Global, size: usize, prefix: &str, data: &[u8]) -> Result<String, Fault> {
+fn write_sized(alloc: Global, size: u64, prefix: &str, data: &[u8]) -> Result<String, Fault> {
     match size {
         0 => write::<0>(alloc, prefix, data),
         8 => write::<8>(alloc, prefix, data),
@@ -98,21 +97,20 @@ fn write_sized(alloc: Global, size: usize, prefix: &str, data: &[u8]) -> Result<
     }
 }
 
-fn encoded_array(alloc: Global, words: &[&str]) -> Result<String, Fault> {
-    let [size, prefix, data] = words else {
+fn encoded_array(alloc: Global, args: &[Vec<u8>]) -> Result<String, Fault> {
+    let [size, prefix, data] = args else {
         return Err(Fault::Count);
     };
-    let prefix = text(alloc, prefix)?;
-    write_sized(alloc, number(size)?, &prefix, &bytes(alloc, data)?)
+    write_sized(alloc, number(size)?, text(prefix)?, data)
 }
 
 /// What a call answers.
-pub fn answer(alloc: Global, name: &str, words: &[&str]) -> Result<String, Fault> {
+pub fn answer(alloc: Global, name: &str, args: &[Vec<u8>]) -> Result<String, Fault> {
     match name {
-        "decode" => decoded(alloc, words),
-        "decode_array" => decoded_array(alloc, words),
-        "encode" => encoded(alloc, words),
-        "encode_array" => encoded_array(alloc, words),
+        "decode" => decoded(alloc, args),
+        "decode_array" => decoded_array(alloc, args),
+        "encode" => encoded(alloc, args),
+        "encode_array" => encoded_array(alloc, args),
         "out_of_memory" => refused(alloc, &Bech32Error::OutOfMemory),
         _ => Err(Fault::Call),
     }

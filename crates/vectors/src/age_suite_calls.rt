@@ -3,7 +3,7 @@
 
 ghost use Rattle.std.specs.Prelude.{◌<◌, ◌^◌};
 
-use crate::words::{Fault, both, bytes, debugged, said, shown};
+use crate::words::{Fault, both, debugged, number, said, shown};
 use age_suite::draw::Draw;
 use age_suite::suite::Opens;
 use std::alloc::Global;
@@ -17,17 +17,17 @@ fn taken<const N: usize>(alloc: Global, draw: &mut Draw) -> Result<String, Fault
     }
 }
 
-fn take(alloc: Global, draw: &mut Draw, size: &str) -> Result<String, Fault> {
+fn take(alloc: Global, draw: &mut Draw, size: u64) -> Result<String, Fault> {
     match size {
-        "0" => taken::<0>(alloc, draw),
-        "2" => taken::<2>(alloc, draw),
-        "3" => taken::<3>(alloc, draw),
+        0 => taken::<0>(alloc, draw),
+        2 => taken::<2>(alloc, draw),
+        3 => taken::<3>(alloc, draw),
         _ => Err(Fault::Word),
     }
 }
 
 // What one more draw adds to an answer.
-fn add(alloc: Global, answer: &mut String, draw: &mut Draw, size: &str) -> Result<(), Fault> {
+fn add(alloc: Global, answer: &mut String, draw: &mut Draw, size: u64) -> Result<(), Fault> {
     if !answer.is_empty() {
         answer.push(' ')?;
     }
@@ -37,23 +37,23 @@ fn add(alloc: Global, answer: &mut String, draw: &mut Draw, size: &str) -> Resul
     Ok(())
 }
 
-fn draw(alloc: Global, words: &[&str]) -> Result<String, Fault> {
-    let Some((all, sizes)) = words.split_first() else {
+fn draw(alloc: Global, args: &[Vec<u8>]) -> Result<String, Fault> {
+    let Some((all, sizes)) = args.split_first() else {
         return Err(Fault::Count);
     };
-    let mut draw = Draw::new(bytes(alloc, all)?);
+    let mut draw = Draw::new(all.clone()?);
     let mut answer = String::new(alloc);
     for size in sizes {
-        add(alloc, &mut answer, &mut draw, size)?;
+        add(alloc, &mut answer, &mut draw, number(size)?)?;
     }
     Ok(answer)
 }
 
-fn debug_draw(alloc: Global, words: &[&str]) -> Result<String, Fault> {
-    let [all] = words else {
+fn debug_draw(alloc: Global, args: &[Vec<u8>]) -> Result<String, Fault> {
+    let [all] = args else {
         return Err(Fault::Count);
     };
-    let mut draw = Draw::new(bytes(alloc, all)?);
+    let mut draw = Draw::new(all.clone()?);
     let before = debugged(alloc, &draw)?;
     let Some(_) = draw.take::<3>() else {
         return Err(Fault::Word);
@@ -68,10 +68,10 @@ fn debug_opens(alloc: Global) -> Result<String, Fault> {
 }
 
 /// What a call answers.
-pub fn answer(alloc: Global, name: &str, words: &[&str]) -> Result<String, Fault> {
+pub fn answer(alloc: Global, name: &str, args: &[Vec<u8>]) -> Result<String, Fault> {
     match name {
-        "draw" => draw(alloc, words),
-        "debug_draw" => debug_draw(alloc, words),
+        "draw" => draw(alloc, args),
+        "debug_draw" => debug_draw(alloc, args),
         "debug_opens" => debug_opens(alloc),
         _ => Err(Fault::Call),
     }

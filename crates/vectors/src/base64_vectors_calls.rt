@@ -2,18 +2,19 @@
 //! Beside the kit's base64: `drawn COUNT`, whether both write and read so many times two lines of bytes that a generator draws alike; and
 //! `each_byte SEED`, whether both take the same columns where one of two lines is any byte, at each place.
 
-use crate::words::{Fault, array, number, said, shown, told};
+use crate::words;
+use crate::words::{Fault, array, said, shown, told};
 use base64::engine::general_purpose::{GeneralPurpose, STANDARD};
 use base64_vectors::{decode_full, encode_full};
 use std::alloc::Global;
 
 const ENGINE: GeneralPurpose = STANDARD;
 
-fn encode(alloc: Global, words: &[&str]) -> Result<String, Fault> {
-    let [bytes] = words else {
+fn encode(alloc: Global, args: &[Vec<u8>]) -> Result<String, Fault> {
+    let [bytes] = args else {
         return Err(Fault::Count);
     };
-    let bytes = array::<48>(alloc, bytes)?;
+    let bytes = array::<48>(bytes)?;
     let mut columns = [0; 64];
     encode_full(&bytes, &mut columns);
     match str::from_utf8(&columns) {
@@ -22,11 +23,11 @@ fn encode(alloc: Global, words: &[&str]) -> Result<String, Fault> {
     }
 }
 
-fn decode(alloc: Global, words: &[&str]) -> Result<String, Fault> {
-    let [columns] = words else {
+fn decode(alloc: Global, args: &[Vec<u8>]) -> Result<String, Fault> {
+    let [columns] = args else {
         return Err(Fault::Count);
     };
-    let columns = array::<64>(alloc, columns)?;
+    let columns = array::<64>(columns)?;
     let mut bytes = [0; 48];
     if !decode_full(&columns, &mut bytes) {
         return said(alloc, "none");
@@ -114,11 +115,11 @@ fn all_come_back(count: u64) -> bool {
 }
 
 // A call that takes a number.
-fn of_number(alloc: Global, name: &str, words: &[&str]) -> Result<String, Fault> {
-    let [word] = words else {
+fn of_number(alloc: Global, name: &str, args: &[Vec<u8>]) -> Result<String, Fault> {
+    let [number] = args else {
         return Err(Fault::Count);
     };
-    let number = number(word)? as u64;
+    let number = words::number(number)?;
     match name {
         "drawn" => told(alloc, all_come_back(number)),
         "each_byte" => told(alloc, agree_at_each_place(&columns_of(&drawn(number)))),
@@ -127,10 +128,10 @@ fn of_number(alloc: Global, name: &str, words: &[&str]) -> Result<String, Fault>
 }
 
 /// What a call answers.
-pub fn answer(alloc: Global, name: &str, words: &[&str]) -> Result<String, Fault> {
+pub fn answer(alloc: Global, name: &str, args: &[Vec<u8>]) -> Result<String, Fault> {
     match name {
-        "encode_full" => encode(alloc, words),
-        "decode_full" => decode(alloc, words),
-        _ => of_number(alloc, name, words),
+        "encode_full" => encode(alloc, args),
+        "decode_full" => decode(alloc, args),
+        _ => of_number(alloc, name, args),
     }
 }

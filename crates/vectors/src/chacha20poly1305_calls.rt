@@ -4,7 +4,7 @@
 //! seal may be cut to, with no refusal; `open_changed_at PLAINTEXT PLACE` and `open_cut_to PLAINTEXT COUNT`, what the seal of a plaintext opens
 //! to that is changed or cut so.
 
-use crate::words::{Fault, array, both, bytes, number, said, shown, told};
+use crate::words::{Fault, array, both, number, said, shown, told};
 use chacha20poly1305::{one_time_key, open, seal};
 use std::alloc::{AllocError, Global};
 
@@ -16,10 +16,10 @@ struct Keys {
 }
 
 impl Keys {
-    fn read(alloc: Global, key: &str, nonce: &str) -> Result<Keys, Fault> {
+    fn read(key: &[u8], nonce: &[u8]) -> Result<Keys, Fault> {
         Ok(Keys {
-            key: array::<32>(alloc, key)?,
-            nonce: array::<12>(alloc, nonce)?,
+            key: array::<32>(key)?,
+            nonce: array::<12>(nonce)?,
         })
     }
 
@@ -54,8 +54,13 @@ fn opened(alloc: Global, keys: &Keys, sealed: &[u8]) -> Result<String, Fault> {
     }
 }
 
-// The length and the last 16 bytes.
-fn end(alloc: Global, sealed: &[u8]) -> Result<String, Fault> {
+fn sealed(alloc: Global, keys: &Keys, plain: &[u8]) -> Result<String, Fault> {
+    shown(alloc, &keys.seal(alloc, plain)?)
+}
+
+// The length of a seal and its last 16 bytes.
+fn end(alloc: Global, keys: &Keys, plain: &[u8]) -> Result<String, Fault> {
+    let sealed = keys.seal(alloc, plain)?;
     let (_, tag) = sealed.split_at(sealed.len().saturating_sub(16));
     let tag = shown(alloc, tag)?;
     let len = sealed.len();
@@ -103,9 +108,9 @@ fn place(alloc: Global, place: Option<usize>) -> Result<String, Fault> {
 // A call on bytes.
 fn of_bytes(alloc: Global, name: &str, keys: &Keys, bytes: &[u8]) -> Result<String, Fault> {
     match name {
-        "seal" => shown(alloc, &keys.seal(alloc, bytes)?),
+        "seal" => sealed(alloc, keys, bytes),
         "open" => opened(alloc, keys, bytes),
-        "end" => end(alloc, &keys.seal(alloc, bytes)?),
+        "end" => end(alloc, keys, bytes),
         "seal_and_open" => told(alloc, comes_back(alloc, keys, bytes)?),
         "open_changed" => place(alloc, first_change(alloc, keys, bytes)?),
         "open_cut" => place(alloc, first_cut(alloc, keys, bytes)?),
@@ -133,15 +138,15 @@ fn of_place(
 }
 
 /// What a call answers.
-pub fn answer(alloc: Global, name: &str, words: &[&str]) -> Result<String, Fault> {
-    let [key, nonce, words @ ..] = words else {
+pub fn answer(alloc: Global, name: &str, args: &[Vec<u8>]) -> Result<String, Fault> {
+    let [key, nonce, args @ ..] = args else {
         return Err(Fault::Count);
     };
-    let keys = Keys::read(alloc, key, nonce)?;
-    match words {
+    let keys = Keys::read(key, nonce)?;
+    match args {
         [] if name == "one_time_key" => shown(alloc, &one_time_key(&keys.key, &keys.nonce)),
-        [text] => of_bytes(alloc, name, &keys, &bytes(alloc, text)?),
-        [text, at] => of_place(alloc, name, &keys, &bytes(alloc, text)?, number(at)?),
+        [text] => of_bytes(alloc, name, &keys, text),
+        [text, at] => of_place(alloc, name, &keys, text, number(at)? as usize),
         _ => Err(Fault::Count),
     }
 }

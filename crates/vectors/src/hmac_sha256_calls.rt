@@ -1,66 +1,62 @@
 //! Calls of `hmac_sha256`: `hmac KEY TEXT`; `finalize KEY PIECE ..`, of a writer that is given the pieces; `verify KEY TEXT MAC`;
 //! `hkdf SALT INFO INPUT`; and `debug KEY TEXT`, of a writer before it is given the text and after it.
 
-use crate::words::{Fault, both, bytes, debugged, shown, told};
+use crate::words::{Fault, both, debugged, shown, told};
 use hmac_sha256::{HmacWriter, hkdf, hmac};
 use std::alloc::Global;
 
-fn mac(alloc: Global, words: &[&str]) -> Result<String, Fault> {
-    let [key, text] = words else {
+fn mac(alloc: Global, args: &[Vec<u8>]) -> Result<String, Fault> {
+    let [key, text] = args else {
         return Err(Fault::Count);
     };
-    let key = bytes(alloc, key)?;
-    shown(alloc, &hmac(&key, &bytes(alloc, text)?))
+    shown(alloc, &hmac(key, text))
 }
 
-fn finalize(alloc: Global, words: &[&str]) -> Result<String, Fault> {
-    let Some((key, pieces)) = words.split_first() else {
+fn finalize(alloc: Global, args: &[Vec<u8>]) -> Result<String, Fault> {
+    let Some((key, pieces)) = args.split_first() else {
         return Err(Fault::Count);
     };
-    let mut writer = HmacWriter::new(&bytes(alloc, key)?);
+    let mut writer = HmacWriter::new(key);
     for piece in pieces {
-        writer.update(&bytes(alloc, piece)?);
+        writer.update(piece);
     }
     shown(alloc, &writer.finalize())
 }
 
-fn verify(alloc: Global, words: &[&str]) -> Result<String, Fault> {
-    let [key, text, mac] = words else {
+fn verify(alloc: Global, args: &[Vec<u8>]) -> Result<String, Fault> {
+    let [key, text, mac] = args else {
         return Err(Fault::Count);
     };
-    let mut writer = HmacWriter::new(&bytes(alloc, key)?);
-    writer.update(&bytes(alloc, text)?);
-    told(alloc, writer.verify(&bytes(alloc, mac)?))
+    let mut writer = HmacWriter::new(key);
+    writer.update(text);
+    told(alloc, writer.verify(mac))
 }
 
-fn derive(alloc: Global, words: &[&str]) -> Result<String, Fault> {
-    let [salt, info, input] = words else {
+fn derive(alloc: Global, args: &[Vec<u8>]) -> Result<String, Fault> {
+    let [salt, info, input] = args else {
         return Err(Fault::Count);
     };
-    let salt = bytes(alloc, salt)?;
-    let info = bytes(alloc, info)?;
-    shown(alloc, &hkdf(&salt, &info, &bytes(alloc, input)?))
+    shown(alloc, &hkdf(salt, info, input))
 }
 
-fn debug(alloc: Global, words: &[&str]) -> Result<String, Fault> {
-    let [key, text] = words else {
+fn debug(alloc: Global, args: &[Vec<u8>]) -> Result<String, Fault> {
+    let [key, text] = args else {
         return Err(Fault::Count);
     };
-    let text = bytes(alloc, text)?;
-    let mut writer = HmacWriter::new(&bytes(alloc, key)?);
+    let mut writer = HmacWriter::new(key);
     let before = debugged(alloc, &writer)?;
-    writer.update(&text);
+    writer.update(text);
     both(alloc, &before, &debugged(alloc, &writer)?)
 }
 
 /// What a call answers.
-pub fn answer(alloc: Global, name: &str, words: &[&str]) -> Result<String, Fault> {
+pub fn answer(alloc: Global, name: &str, args: &[Vec<u8>]) -> Result<String, Fault> {
     match name {
-        "hmac" => mac(alloc, words),
-        "finalize" => finalize(alloc, words),
-        "verify" => verify(alloc, words),
-        "hkdf" => derive(alloc, words),
-        "debug" => debug(alloc, words),
+        "hmac" => mac(alloc, args),
+        "finalize" => finalize(alloc, args),
+        "verify" => verify(alloc, args),
+        "hkdf" => derive(alloc, args),
+        "debug" => debug(alloc, args),
         _ => Err(Fault::Call),
     }
 }

@@ -17,7 +17,7 @@ mod scrypt_calls;
 mod words;
 mod x25519_calls;
 
-use crate::words::Fault;
+use crate::words::{Fault, bytes};
 use std::alloc::Global;
 use std::io;
 use std::io::{BufRead, BufReader};
@@ -31,17 +31,17 @@ struct Tally {
 }
 
 // What a call of a crate answers.
-fn answer_of(alloc: Global, library: &str, name: &str, words: &[&str]) -> Result<String, Fault> {
+fn answer_of(alloc: Global, library: &str, name: &str, args: &[Vec<u8>]) -> Result<String, Fault> {
     match library {
-        "age_bech32" => age_bech32_calls::answer(alloc, name, words),
-        "age_suite" => age_suite_calls::answer(alloc, name, words),
-        "base64_vectors" => base64_vectors_calls::answer(alloc, name, words),
-        "chacha20" => chacha20_calls::answer(alloc, name, words),
-        "chacha20poly1305" => chacha20poly1305_calls::answer(alloc, name, words),
-        "hmac_sha256" => hmac_sha256_calls::answer(alloc, name, words),
-        "poly1305" => poly1305_calls::answer(alloc, name, words),
-        "scrypt" => scrypt_calls::answer(alloc, name, words),
-        "x25519" => x25519_calls::answer(alloc, name, words),
+        "age_bech32" => age_bech32_calls::answer(alloc, name, args),
+        "age_suite" => age_suite_calls::answer(alloc, name, args),
+        "base64_vectors" => base64_vectors_calls::answer(alloc, name, args),
+        "chacha20" => chacha20_calls::answer(alloc, name, args),
+        "chacha20poly1305" => chacha20poly1305_calls::answer(alloc, name, args),
+        "hmac_sha256" => hmac_sha256_calls::answer(alloc, name, args),
+        "poly1305" => poly1305_calls::answer(alloc, name, args),
+        "scrypt" => scrypt_calls::answer(alloc, name, args),
+        "x25519" => x25519_calls::answer(alloc, name, args),
         _ => Err(Fault::Call),
     }
 }
@@ -51,11 +51,15 @@ fn answer(alloc: Global, call: &str) -> Result<String, Fault> {
     let Some((library, call)) = call.split_once("::") else {
         return Err(Fault::Call);
     };
-    let words: Vec<&str> = call.split_whitespace().collect(alloc)?;
-    match words.split_first() {
-        Some((name, words)) => answer_of(alloc, library, name, words),
-        None => Err(Fault::Call),
+    let mut words = call.split_whitespace();
+    let Some(name) = words.next() else {
+        return Err(Fault::Call);
+    };
+    let mut args = Vec::new(alloc);
+    for word in words {
+        args.push(bytes(alloc, word)?)?;
     }
+    answer_of(alloc, library, name, &args)
 }
 
 // Whether a row's call answers what it says. If not, it is printed.

@@ -1,7 +1,7 @@
 //! The words of a row, and how answers are spelled.
 //!
-//! Bytes are `-` for none, hexadecimal digits, `00..1f` for all from the first to the last, or a text behind a `'`. A count behind a `*` says how
-//! many bytes there are: those before the star, again and again.
+//! A word is bytes: `-` for none, hexadecimal digits, `00..1f` for all from the first to the last, or a text behind a `'`, as each number is. A count
+//! behind a `*` says how many bytes there are: those before the star, again and again.
 
 ghost use Rattle.std.specs.Prelude.{◌<◌, ◌^◌};
 
@@ -46,8 +46,8 @@ impl<T: Drop> From<AllocFailed<T>> for Fault {
     }
 }
 
-/// A number.
-pub fn number(word: &str) -> Result<usize, Fault> {
+// A count.
+fn count(word: &str) -> Result<usize, Fault> {
     word.parse::<usize>().map_err(|_| Fault::Word)
 }
 
@@ -101,7 +101,7 @@ fn repeated(alloc: Global, pattern: &[u8], count: usize) -> Result<Vec<u8>, Faul
     Ok(bytes)
 }
 
-/// Bytes.
+/// The bytes of a word.
 pub fn bytes(alloc: Global, word: &str) -> Result<Vec<u8>, Fault> {
     if word == "-" {
         return Ok(Vec::new(alloc));
@@ -110,26 +110,33 @@ pub fn bytes(alloc: Global, word: &str) -> Result<Vec<u8>, Fault> {
         return Ok(text.as_bytes().to_vec(alloc)?);
     }
     match word.split_once('*') {
-        Some((front, count)) => repeated(alloc, &pattern(alloc, front)?, number(count)?),
+        Some((front, times)) => repeated(alloc, &pattern(alloc, front)?, count(times)?),
         None => pattern(alloc, word),
     }
 }
 
 /// So many bytes.
-pub fn array<const N: usize>(alloc: Global, word: &str) -> Result<[u8; N], Fault>
+pub fn array<const N: usize>(bytes: &[u8]) -> Result<[u8; N], Fault>
     requires { N < 2 ^ 63 }
 {
-    let bytes = bytes(alloc, word)?;
     match bytes.first_chunk::<N>() {
         Some(array) if bytes.len() == N => Ok(*array),
         _ => Err(Fault::Word),
     }
 }
 
-/// Bytes that are UTF-8.
-pub fn text(alloc: Global, word: &str) -> Result<String, Fault> {
-    match String::from_utf8(bytes(alloc, word)?) {
+/// A text.
+pub fn text(bytes: &[u8]) -> Result<&str, Fault> {
+    match str::from_utf8(bytes) {
         Ok(text) => Ok(text),
+        Err(_) => Err(Fault::Word),
+    }
+}
+
+/// A number.
+pub fn number(bytes: &[u8]) -> Result<u64, Fault> {
+    match text(bytes)?.parse::<u64>() {
+        Ok(number) => Ok(number),
         Err(_) => Err(Fault::Word),
     }
 }

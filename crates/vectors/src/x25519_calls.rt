@@ -4,24 +4,24 @@ use crate::words::{Fault, array, number, shown};
 use std::alloc::Global;
 use x25519::{public_key, x25519};
 
-fn shared(alloc: Global, words: &[&str]) -> Result<String, Fault> {
-    let [secret, public] = words else {
+fn shared(alloc: Global, args: &[Vec<u8>]) -> Result<String, Fault> {
+    let [secret, public] = args else {
         return Err(Fault::Count);
     };
-    let secret = array::<32>(alloc, secret)?;
-    let public = array::<32>(alloc, public)?;
+    let secret = array::<32>(secret)?;
+    let public = array::<32>(public)?;
     shown(alloc, &x25519(&secret, &public))
 }
 
-fn public(alloc: Global, words: &[&str]) -> Result<String, Fault> {
-    let [secret] = words else {
+fn public(alloc: Global, args: &[Vec<u8>]) -> Result<String, Fault> {
+    let [secret] = args else {
         return Err(Fault::Count);
     };
-    shown(alloc, &public_key(&array::<32>(alloc, secret)?))
+    shown(alloc, &public_key(&array::<32>(secret)?))
 }
 
 // In each round k becomes the output, and u the old k.
-fn iterated(count: usize) -> [u8; 32] {
+fn iterated(count: u64) -> [u8; 32] {
     let mut k = [0; 32];
     k[0] = 9;
     let mut u = k;
@@ -33,19 +33,19 @@ fn iterated(count: usize) -> [u8; 32] {
     k
 }
 
-fn rounds(alloc: Global, words: &[&str]) -> Result<String, Fault> {
-    let [count] = words else {
+fn rounds(alloc: Global, args: &[Vec<u8>]) -> Result<String, Fault> {
+    let [count] = args else {
         return Err(Fault::Count);
     };
     shown(alloc, &iterated(number(count)?))
 }
 
 /// What a call answers.
-pub fn answer(alloc: Global, name: &str, words: &[&str]) -> Result<String, Fault> {
+pub fn answer(alloc: Global, name: &str, args: &[Vec<u8>]) -> Result<String, Fault> {
     match name {
-        "x25519" => shared(alloc, words),
-        "public_key" => public(alloc, words),
-        "rounds" => rounds(alloc, words),
+        "x25519" => shared(alloc, args),
+        "public_key" => public(alloc, args),
+        "rounds" => rounds(alloc, args),
         _ => Err(Fault::Call),
     }
 }
