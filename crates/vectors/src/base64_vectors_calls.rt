@@ -1,9 +1,39 @@
-//! Base64 by vectors, beside the kit's: bytes that a generator draws, each byte as each column, and RFC 4648, section 10.
+//! Calls of `base64_vectors`: `encode_full BYTES` of 48 bytes, and `decode_full COLUMNS` of 64 columns, which answers `none` where they are refused.
+//! Beside the kit's base64: `drawn COUNT`, whether both write and read so many times two lines of bytes that a generator draws alike; and
+//! `each_byte SEED`, whether both take the same columns where one of two lines is any byte, at each place.
 
+use crate::words;
+use crate::words::{Fault, array, said, shown, told};
 use base64::engine::general_purpose::{GeneralPurpose, STANDARD};
 use base64_vectors::{decode_full, encode_full};
+use std::alloc::Global;
 
 const ENGINE: GeneralPurpose = STANDARD;
+
+fn encode(alloc: Global, args: &[Vec<u8>]) -> Result<String, Fault> {
+    let [bytes] = args else {
+        return Err(Fault::Count);
+    };
+    let bytes = array::<48>(bytes)?;
+    let mut columns = [0; 64];
+    encode_full(&bytes, &mut columns);
+    match str::from_utf8(&columns) {
+        Ok(text) => said(alloc, text),
+        Err(_) => shown(alloc, &columns),
+    }
+}
+
+fn decode(alloc: Global, args: &[Vec<u8>]) -> Result<String, Fault> {
+    let [columns] = args else {
+        return Err(Fault::Count);
+    };
+    let columns = array::<64>(columns)?;
+    let mut bytes = [0; 48];
+    if !decode_full(&columns, &mut bytes) {
+        return said(alloc, "none");
+    }
+    shown(alloc, &bytes)
+}
 
 // The next number of a linear congruential generator.
 fn next(state: u64) -> u64 {
@@ -76,33 +106,32 @@ fn come_back(seed: u64) -> bool {
     are_written(&bytes, &columns) && decode_full(&columns, &mut again) && again == bytes
 }
 
-#[test]
-fn drawn_bytes_are_written_and_read(rt: HostRuntime) {
+fn all_come_back(count: u64) -> bool {
     let mut same = true;
-    for seed in 0..2000u64 {
+    for seed in 0..count {
         same &= come_back(seed);
     }
-    assert!(rt; same);
+    same
 }
 
-#[test]
-fn each_byte_is_taken_where_the_kit_takes_it(rt: HostRuntime) {
-    assert!(rt; agree_at_each_place(&columns_of(&drawn(7))));
+// A call that takes a number.
+fn of_number(alloc: Global, name: &str, args: &[Vec<u8>]) -> Result<String, Fault> {
+    let [number] = args else {
+        return Err(Fault::Count);
+    };
+    let number = words::number(number)?;
+    match name {
+        "drawn" => told(alloc, all_come_back(number)),
+        "each_byte" => told(alloc, agree_at_each_place(&columns_of(&drawn(number)))),
+        _ => Err(Fault::Call),
+    }
 }
 
-// The last of section 10's vectors, as often as fills a line.
-#[test]
-fn the_last_vector_of_the_rfc(rt: HostRuntime) {
-    let bytes = *b"foobarfoobarfoobarfoobarfoobarfoobarfoobarfoobar";
-    let mut columns = [0; 64];
-    encode_full(&bytes, &mut columns);
-    assert!(rt; columns == *b"Zm9vYmFyZm9vYmFyZm9vYmFyZm9vYmFyZm9vYmFyZm9vYmFyZm9vYmFyZm9vYmFy");
-}
-
-// Fewer bytes than a line has are padded, and so are no whole line.
-#[test]
-fn padding_is_refused(rt: HostRuntime) {
-    let columns = *b"Zm9vYmFyZm9vYmFyZm9vYmFyZm9vYmFyZm9vYmFyZm9vYmFyZm9vYmFyZm9vYmE=";
-    let mut bytes = [0; 48];
-    assert!(rt; !decode_full(&columns, &mut bytes));
+/// What a call answers.
+pub fn answer(alloc: Global, name: &str, args: &[Vec<u8>]) -> Result<String, Fault> {
+    match name {
+        "encode_full" => encode(alloc, args),
+        "decode_full" => decode(alloc, args),
+        _ => of_number(alloc, name, args),
+    }
 }
