@@ -16,8 +16,10 @@ mod cut_payload;
 mod far_seek;
 mod files;
 mod gets;
+mod header_calls;
 mod identity_file;
 mod key_calls;
+mod key_text_calls;
 mod key_texts;
 mod lines;
 mod protected_file;
@@ -26,6 +28,9 @@ mod readers;
 mod recipients;
 mod records;
 mod seeks;
+mod stanza_calls;
+mod table;
+mod words;
 mod writers;
 
 use age::io::{Std, read_to_end};
@@ -33,7 +38,7 @@ use std::process::ExitCode;
 use std::{env, io};
 
 const USAGE: &str =
-    "usage: rows files|key_texts|recipients|calls; rows cut_payload|armor_seeks|far_seek|protected_file|identity_file|long_writes|records|write_records, with bytes on standard input; rows seeks|gets [file] FILE, with a place or number a line there; or rows protected_recipients [PASSPHRASE], with the file there";
+    "usage: rows files|key_texts|recipients|calls; rows cut_payload|armor_seeks|far_seek|protected_file|identity_file|long_writes|records|write_records, with bytes on standard input; rows seeks|gets [file] FILE, with a place or number a line there; rows protected_recipients [PASSPHRASE], with the file there; or rows table, with calls and answers there";
 
 /// What a command line came to.
 enum Outcome {
@@ -52,7 +57,7 @@ fn no_memory(rt: &HostRuntime) -> Outcome {
 }
 
 // The words after the program's name, or what it comes to that there are none.
-fn words(rt: &HostRuntime) -> Result<Vec<String>, Outcome> {
+fn command_line(rt: &HostRuntime) -> Result<Vec<String>, Outcome> {
     let all = match env::args(rt) {
         Ok(all) => all,
         Err(error) if error.kind() == io::ErrorKind::OutOfMemory => return Err(no_memory(rt)),
@@ -126,13 +131,14 @@ fn act(rt: &HostRuntime, words: &[String]) -> Outcome {
         "seeks" => seeks::print(rt, rest),
         "gets" => gets::print(rt, rest),
         "protected_recipients" => protected_recipients::print(rt, rest),
+        "table" if rest.is_empty() => table::print(rt),
         name if rest.is_empty() => row(rt, name),
         _ => Outcome::Usage,
     }
 }
 
 fn main(rt: HostRuntime) -> ExitCode {
-    let outcome = match words(&rt) {
+    let outcome = match command_line(&rt) {
         Ok(words) => act(&rt, &words),
         Err(outcome) => outcome,
     };
