@@ -36,7 +36,12 @@ fn stanzas_of(alloc: Global, stanzas: &[Stanza]) -> Result<String, Fault> {
 fn read(alloc: Global, text: &[u8]) -> Result<String, Fault> {
     let mut input = Bytes::new(text);
     match HeaderV1::read(alloc, &mut input) {
-        Ok(header) => taken(alloc, &stanzas_of(alloc, header.stanzas())?, text, &mut input),
+        Ok(header) => taken(
+            alloc,
+            &stanzas_of(alloc, header.stanzas())?,
+            text,
+            &mut input,
+        ),
         Err(refusal) => taken(alloc, &refusal, text, &mut input),
     }
 }
@@ -44,7 +49,12 @@ fn read(alloc: Global, text: &[u8]) -> Result<String, Fault> {
 fn old_read(alloc: Global, text: &[u8]) -> Result<String, Fault> {
     let mut input = Bytes::new(text);
     match OldHeader::read(alloc, &mut input) {
-        Ok(header) => taken(alloc, &stanzas_of(alloc, header.stanzas())?, text, &mut input),
+        Ok(header) => taken(
+            alloc,
+            &stanzas_of(alloc, header.stanzas())?,
+            text,
+            &mut input,
+        ),
         Err(refusal) => taken(alloc, &refusal, text, &mut input),
     }
 }

@@ -9,6 +9,7 @@
 //! `rows protected_recipients` prints the recipients of a protected identity file twice.
 #![tactic(auto)]
 
+mod armor_calls;
 mod armor_seeks;
 mod callbacks;
 mod calls;
@@ -17,6 +18,7 @@ mod far_seek;
 mod files;
 mod gets;
 mod header_calls;
+mod identity_calls;
 mod identity_file;
 mod key_calls;
 mod key_text_calls;

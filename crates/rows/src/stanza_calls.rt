@@ -121,11 +121,7 @@ fn of_passphrase(
     Ok(scrypt::Identity::new(passphrase(alloc, word)?, target))
 }
 
-fn write_all(
-    out: &mut String,
-    stanzas: &[Stanza],
-    labels: &BTreeSet<String>,
-) -> fmt::Result {
+fn write_all(out: &mut String, stanzas: &[Stanza], labels: &BTreeSet<String>) -> fmt::Result {
     for stanza in stanzas {
         write!(out, "{};", Shown(stanza))?;
     }
@@ -136,11 +132,7 @@ fn write_all(
 }
 
 // Stanzas and labels, each with a semicolon after it.
-fn listed(
-    alloc: Global,
-    stanzas: &[Stanza],
-    labels: &BTreeSet<String>,
-) -> Result<String, Fault> {
+fn listed(alloc: Global, stanzas: &[Stanza], labels: &BTreeSet<String>) -> Result<String, Fault> {
     let mut out = String::new(alloc);
     match write_all(&mut out, stanzas, labels) {
         Ok(()) => Ok(out),
@@ -149,11 +141,7 @@ fn listed(
 }
 
 // What a recipient wraps a file key of zeros in.
-fn wrapped<R: Recipient>(
-    alloc: Global,
-    recipient: &R,
-    draw: &mut Draw,
-) -> Result<String, Fault> {
+fn wrapped<R: Recipient>(alloc: Global, recipient: &R, draw: &mut Draw) -> Result<String, Fault> {
     match recipient.wrap_file_key(alloc, &FileKey::new([0; 16]), draw) {
         Ok((stanzas, labels)) => listed(alloc, &stanzas, &labels),
         Err(refusal) => printed(alloc, &refusal),

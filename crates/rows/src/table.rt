@@ -2,9 +2,8 @@
 //! with `#`, is passed over. Each row whose answer is another, or isn't known, is printed with its line, and at last how many rows there were and how
 //! many differ.
 
-use crate::key_text_calls;
 use crate::words::Fault;
-use crate::{Outcome, header_calls, stanza_calls};
+use crate::{Outcome, armor_calls, header_calls, identity_calls, key_text_calls, stanza_calls};
 use age::io::{Error, Std, read_to_end};
 use std::alloc::Global;
 use std::str;
@@ -22,6 +21,8 @@ fn answer_of(alloc: Global, module: &str, name: &str, words: &[&str]) -> Result<
         "key_text" => key_text_calls::answer(alloc, name, words),
         "header" => header_calls::answer(alloc, name, words),
         "stanza" => stanza_calls::answer(alloc, name, words),
+        "armor" => armor_calls::answer(alloc, name, words),
+        "identity" => identity_calls::answer(alloc, name, words),
         _ => Err(Fault::Call),
     }
 }
