@@ -1,7 +1,8 @@
-//! Calls on armor: `armor::write BYTES` and `armor::bare BYTES` answer the text of bytes that are written with armor and without. `armor::read TEXT` answers
-//! the bytes of a text, what the read after them answers, and what one more does, where it is read in every way: by reads and by what is shown, of several
-//! sizes, with and without a buffer. `armor::read_back LEAST MOST` answers whether the bytes 0, 1, .., 255 again and again, each number of them from the least
-//! to the most, are read back from their armor, and so does `read_back_crlf` with CRLF for its line endings.
+//! Calls on armor: `armor::write BYTES` and `armor::bare BYTES` answer the text of bytes that are written with armor and without. `armor::read
+//! TEXT` answers the bytes of a text, what the read after them answers, and what one more does, where it is read in every way: by reads and by
+//! what is shown, of several sizes, with and without a buffer. `armor::read_back LEAST MOST` answers whether the bytes 0, 1, .., 255 again and
+//! again, each number of them from the least to the most, are read back from their armor, and so does `read_back_crlf` with CRLF for its line
+//! endings.
 
 ghost use Rattle.std.specs.Prelude.{◌<◌, ◌^◌};
 

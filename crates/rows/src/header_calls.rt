@@ -1,8 +1,8 @@
-//! Calls on headers, as `header::read TEXT`. `read` answers how many stanzas there are, or the refusal, and how many bytes were taken of a reader that
-//! has the others still; `stanzas` each stanza's tag, arguments and body; `write` and `text` what is written for the header and its text; `mac` its
-//! MAC; and `verify_mac KEY TEXT` whether that is the one of a file key. `old_read`, `old_stanzas`, `old_into_stanzas` and `old_verify_mac` read the
-//! legacy form too.
-//! `new KEY TAG ARGUMENT .. BODY` answers what is written for a header of one stanza that is made under a file key.
+//! Calls on headers, as `header::read TEXT`. `read` answers how many stanzas there are, or the refusal, and how many bytes were taken of a
+//! reader that has the others still; `stanzas` each stanza's tag, arguments and body; `write` and `text` what is written for the header and its
+//! text; `mac` its MAC; and `verify_mac KEY TEXT` whether that is the one of a file key. `old_read`, `old_stanzas`, `old_into_stanzas` and
+//! `old_verify_mac` read the legacy form too. `new KEY TAG ARGUMENT .. BODY` answers what is written for a header of one stanza that is made
+//! under a file key.
 
 use crate::stanza_calls::{Shown, stanza};
 use crate::words::{Fault, Hex, Word, array, bytes, printed, said, told};

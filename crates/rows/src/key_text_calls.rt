@@ -1,7 +1,7 @@
 //! Calls on texts of keys, as `key_text::recipient TEXT`. `recipient`, `shown_recipient` (as whoever looks for faults sees it), `identity` and
 //! `copied_identity` answer the text of the key, `generate BYTES` that of the identity or `none`, and how many of the random bytes are left.
-//! `plugin_recipient TEXT`, `plugin_identity TEXT` and `plugin_default NAME` answer the plugin's name and the text of the key, which the first two
-//! take from a copy. A refusal is its text.
+//! `plugin_recipient TEXT`, `plugin_identity TEXT` and `plugin_default NAME` answer the plugin's name and the text of the key, which the first
+//! two take from a copy. A refusal is its text.
 
 use crate::words::{Fault, bytes, printed, said, text};
 use age::draw::Draw;

@@ -1,8 +1,8 @@
 //! Calls on stanzas, each of which is `TAG ARGUMENT .. BODY`. `new` and `grease` answer it, or `none` where it is no stanza or no grease.
-//! `x25519_unwrap SECRET ..` and `scrypt_unwrap PASSPHRASE TARGET ..` ask the identity of a secret, or of a passphrase and a work factor: they answer the
-//! file key, `none` where the stanza is passed over, or the refusal. `x25519_wrap SECRET RANDOM` and `scrypt_wrap PASSPHRASE FACTOR RANDOM` wrap a file key
-//! of zeros: they answer each stanza, each label, and how many of the random bytes are left. So does `scrypt_set_and_wrap`, whose recipient was made for
-//! another work factor.
+//! `x25519_unwrap SECRET ..` and `scrypt_unwrap PASSPHRASE TARGET ..` ask the identity of a secret, or of a passphrase and a work factor: they
+//! answer the file key, `none` where the stanza is passed over, or the refusal. `x25519_wrap SECRET RANDOM` and `scrypt_wrap PASSPHRASE FACTOR
+//! RANDOM` wrap a file key of zeros: they answer each stanza, each label, and how many of the random bytes are left. So does
+//! `scrypt_set_and_wrap`, whose recipient was made for another work factor.
 
 ghost use Rattle.std.specs.Prelude.{◌≤◌};
 

@@ -1,6 +1,6 @@
-//! A table of calls and their answers, which standard input gives. A row is `MODULE::CALL WORD WORD .. => ANSWER`; an empty line, or one that begins
-//! with `#`, is passed over. Each row whose answer is another, or isn't known, is printed with its line, and at last how many rows there were and how
-//! many differ.
+//! A table of calls and their answers, which standard input gives. A row is `MODULE::CALL WORD WORD .. => ANSWER`; an empty line, or one that
+//! begins with `#`, is passed over. Each row whose answer is another, or isn't known, is printed with its line, and at last how many rows there
+//! were and how many differ.
 
 use crate::words::Fault;
 use crate::{Outcome, armor_calls, header_calls, identity_calls, key_text_calls, stanza_calls};

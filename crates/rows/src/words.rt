@@ -1,8 +1,8 @@
 //! The words of a row of the table, and how answers are spelled.
 //!
-//! Bytes are `-` for none, hexadecimal digits, `00..1f` for all from the first to the last, or a text behind a `'`, in which `\n`, `\r`, `\t`, `\f` and
-//! `\s` are LF, CR, a tab, a form feed and a space, `\\` is a backslash, and any other byte stands as two digits behind `\x`. A count behind a `*`
-//! says how many bytes there are: those of the digits before it, again and again. Parts are joined by `|`.
+//! Bytes are `-` for none, hexadecimal digits, `00..1f` for all from the first to the last, or a text behind a `'`, in which `\n`, `\r`, `\t`,
+//! `\f` and `\s` are LF, CR, a tab, a form feed and a space, `\\` is a backslash, and any other byte stands as two digits behind `\x`. A count
+//! behind a `*` says how many bytes there are: those of the digits before it, again and again. Parts are joined by `|`.
 
 ghost use Rattle.std.specs.Prelude.{◌<◌, ◌^◌};
 
