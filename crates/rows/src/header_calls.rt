@@ -2,7 +2,7 @@
 //! reader that has the others still; `stanzas` each stanza's tag, arguments and body; `write` and `text` what is written for the header and its
 //! text; `mac` its MAC; and `verify_mac KEY TEXT` whether that is the one of a file key. `old_read`, `old_stanzas`, `old_into_stanzas` and
 //! `old_verify_mac` read the legacy form too. `new KEY TAG ARGUMENT .. BODY` answers what is written for a header of one stanza that is made
-//! under a file key.
+//! under a file key, and `new_verify_mac KEY OTHER TAG ARGUMENT .. BODY` whether its MAC is the one of another file key.
 
 use crate::stanza_calls::{Shown, stanza};
 use crate::words::{Fault, Hex, Word, array, bytes, printed, said, told};
@@ -134,17 +134,30 @@ fn old_verify_mac(alloc: Global, key: &FileKey, text: &[u8]) -> Result<String, F
 }
 
 // The header of one stanza under a file key.
-fn made(alloc: Global, key: &FileKey, stanza: Stanza) -> Result<String, Fault> {
+fn made(alloc: Global, key: &FileKey, words: &[&str]) -> Result<HeaderV1, Fault> {
+    let Some(stanza) = stanza(alloc, words)? else {
+        return Err(Fault::Word);
+    };
     let mut stanzas = Vec::new(alloc);
     stanzas.push(stanza)?;
-    written(alloc, &HeaderV1::new(alloc, stanzas, key)?)
+    Ok(HeaderV1::new(alloc, stanzas, key)?)
 }
 
 fn new(alloc: Global, key: &FileKey, words: &[&str]) -> Result<String, Fault> {
-    match stanza(alloc, words)? {
-        Some(stanza) => made(alloc, key, stanza),
-        None => Err(Fault::Word),
-    }
+    written(alloc, &made(alloc, key, words)?)
+}
+
+fn new_verify_mac(
+    alloc: Global,
+    key: &FileKey,
+    other: &str,
+    words: &[&str],
+) -> Result<String, Fault> {
+    let header = made(alloc, key, words)?;
+    told(
+        alloc,
+        header.verify_mac(&FileKey::new(array::<16>(alloc, other)?)),
+    )
 }
 
 // What a call with a file key answers.
@@ -153,6 +166,7 @@ fn answer_under(alloc: Global, name: &str, key: &FileKey, words: &[&str]) -> Res
         ("verify_mac", [text]) => verify_mac(alloc, key, &bytes(alloc, text)?),
         ("old_verify_mac", [text]) => old_verify_mac(alloc, key, &bytes(alloc, text)?),
         ("new", words) => new(alloc, key, words),
+        ("new_verify_mac", [other, words @ ..]) => new_verify_mac(alloc, key, other, words),
         _ => Err(Fault::Call),
     }
 }

@@ -4,7 +4,7 @@
 //! RANDOM` wrap a file key of zeros: they answer each stanza, each label, and how many of the random bytes are left. So does
 //! `scrypt_set_and_wrap`, whose recipient was made for another work factor.
 
-ghost use Rattle.std.specs.Prelude.{◌≤◌};
+ghost use Rattle.std.specs.Prelude.{◌≤◌, IfOk};
 
 use crate::words::{Fault, Hex, bytes, number, printed, said, text, texts};
 use age::draw::Draw;
@@ -98,7 +98,7 @@ fn identity_of(alloc: Global, secret: &str) -> Result<x25519::Identity<BenchSuit
 
 // A work factor.
 fn factor(word: &str) -> Result<u8, Fault>
-    ensures { OnOk result (λ it. it ≤ 63) }
+    ensures { IfOk result (λ it. it ≤ 63) }
 {
     match word.parse::<u8>() {
         Ok(factor) if factor <= 63 => Ok(factor),
