@@ -1,5 +1,4 @@
-//! Armor through the library: what is written, what is read back, and each fault of a text. The expected texts are those
-//! of Python's base64 between the two markers.
+//! Armor through the library: what is written is read back. Texts from outside and each fault of a text are in the table of `rows`.
 
 use age_armor::{ArmoredReader, ArmoredWriter, Format};
 use age_devices::answers::delivers;

@@ -144,10 +144,12 @@ fn first(text: &[u8]) -> Result<(u8, &[u8]), Fault> {
 fn unescaped(alloc: Global, text: &str) -> Result<Vec<u8>, Fault> {
     let mut bytes = Vec::new(alloc);
     let mut rest = text.as_bytes();
-    while !rest.is_empty() {
-        let (byte, others) = first(rest)?;
-        bytes.push(byte)?;
-        rest = others;
+    for _ in 0..text.len() {
+        if !rest.is_empty() {
+            let (byte, others) = first(rest)?;
+            bytes.push(byte)?;
+            rest = others;
+        }
     }
     Ok(bytes)
 }
