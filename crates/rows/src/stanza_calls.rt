@@ -98,10 +98,11 @@ fn identity_of(alloc: Global, secret: &str) -> Result<x25519::Identity<BenchSuit
 
 // A work factor.
 fn factor(word: &str) -> Result<u8, Fault>
-    ensures { IfOk result (λ it. it ≤ 63) }
+    ensures some { IfOk result (λ it. 1 ≤ it) }
+    ensures most { IfOk result (λ it. it ≤ 63) }
 {
     match word.parse::<u8>() {
-        Ok(factor) if factor <= 63 => Ok(factor),
+        Ok(factor) if factor >= 1 && factor <= 63 => Ok(factor),
         _ => Err(Fault::Word),
     }
 }
