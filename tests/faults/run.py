@@ -620,6 +620,20 @@ def on_disk(runs):
         usage(runs, words, b"0\n")
 
 
+def table(runs):
+    """The table of rows: it is refused where a row has another answer, no answer that is known, or none at all, and where it has no row."""
+    good, other = "key_text::identity 'age1 => invalid Bech32 encoding", "header::read - => input ended early, 0 taken"
+    runs.judge("table", (got := runs.run(["table"], f"# two\n\n{good}\n{other}\n".encode()))[:3] == (0, b"2 rows, 0 differ\n", ""), got)
+    for name, line, told in [("another answer", f"{good}s", f"line 2: {good.replace('=>', '=> got')}, want invalid Bech32 encodings"),
+                             ("no such call", "key_text::identitie - => x", "line 2: key_text::identitie -: no such call"),
+                             ("a word too many", "header::read - - => x", "line 2: header::read - -: a word can't be read"),
+                             ("a word that is none", "header::read 0 => x", "line 2: header::read 0: a word can't be read"),
+                             ("no answer", "header::read -", "line 2: header::read -: no answer is wanted")]:
+        got = runs.run(["table"], f"{other}\n{line}\n".encode())
+        runs.judge(f"table with {name}", got[:3] == (1, f"{told}\n2 rows, 1 differ\n".encode(), ""), got)
+    runs.judge("table of no row", (got := runs.run(["table"], b"# none\n"))[:3] == (1, b"0 rows, 0 differ\n", ""), got)
+
+
 def usage(runs, words, given):
     """Words, or numbers on standard input, that ask for nothing."""
     status, out, err, _ = got = runs.run(words, given)
@@ -635,9 +649,9 @@ FAULTY = ["seal", "open", "encrypt", "decrypt", "encrypt in armor", "decrypt arm
 # The long ones first: they are run side by side.
 PARTS = [(marked,), *[(faulty, name) for name in reversed(FAULTY)], (protected,), (injected_keys,), (injected_passphrases,),
          (messages,), (damaged_armor,), (armored_files,), (files,), (parts,), (keys,), (passphrases,), (damaged_payloads,), (sealing,),
-         (command_lines,), *[(row, name) for name in rows.ROWS], (calls,), (on_disk,)]
+         (command_lines,), *[(row, name) for name in rows.ROWS], (calls,), (on_disk,), (table,)]
 # The parts that run rows, and not agebench.
-OF_ROWS = {protected, row, calls, on_disk}
+OF_ROWS = {protected, row, calls, on_disk, table}
 
 
 def judged(agebench, shim, folder, part, *about):
