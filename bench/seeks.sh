@@ -12,13 +12,13 @@ top=$(cd "$(dirname "$0")/.." && pwd)
 key=000102030405060708090a0b0c0d0e0f101112131415161718191a1b1c1d1e1f
 "$top/agebench" seal "$key" </dev/null >/dev/null
 "$top/sazh" --version >/dev/null
-SAZH_WAITS=$$ python3 "$top/build.py" bench_probe seeks "$top/crates/bench_probe/data/payload" </dev/null
+SAZH_WAITS=$$ python3 "$top/build.py" rows key_texts </dev/null >/dev/null
 folder=$(mktemp -d -p "${TMPDIR:-/tmp}")
 trap 'rm -rf "$folder"' EXIT
 python3 - "$folder" "$top" "$key" "$size" <<'PYTHON'
 import os, random, subprocess, sys, time
 folder, top, key, size = sys.argv[1:]
-probe, agebench, sazh = (os.path.join(top, "crates", it, "out", it) for it in ("bench_probe", "agebench", "sazh"))
+probe, agebench, sazh = (os.path.join(top, "crates", it, "out", it) for it in ("rows", "agebench", "sazh"))
 name = lambda it: os.path.join(folder, it)
 length, piece, chance = int(size) << 20, 65536, random.Random(1)
 plain = os.urandom(length)
@@ -105,7 +105,7 @@ forms = [("payload", [], [agebench, "seal", key], [agebench, "open", key]), ("ba
 def get(words, numbers):
     """The seconds that getting these records takes, and how many chunks it opens. It gets the right bytes."""
     start = time.perf_counter()
-    done = subprocess.run([probe, "records", *words], input="".join(f"{it}\n" for it in numbers).encode(), capture_output=True, check=True)
+    done = subprocess.run([probe, "gets", *words], input="".join(f"{it}\n" for it in numbers).encode(), capture_output=True, check=True)
     took = time.perf_counter() - start
     told = done.stdout.decode().split()
     want = [str(len(numbers)), "read,", str(sum(sum(record(it)) for it in numbers)), "in", "all,"]

@@ -13,6 +13,7 @@ NO_MEMORY = "out of memory"
 # The text of std's error.
 NO_ALLOCATION = "memory allocation failed"
 FAILED = "failed earlier"
+BAD_END = "Last chunk is invalid, stream might be truncated"
 MESSAGE = b"This is a test message. For testing."
 KEY = bytes(range(32))
 IDENTITY = "AGE-SECRET-KEY-1GQ9778VQXMMJVE8SK7J6VT8UJ4HDQAJUVSFCWCM02D8GEWQ72PVQ2Y5J33"
@@ -98,10 +99,23 @@ def cut_payload():
     given = second.payload(KEY, plain)[:second.PIECE + 16]
     seek, read = "payload seek: 0", f"payload read: {digest(plain[:second.PIECE])}"
     good = [read, "payload read: age file is truncated", f"payload read: {FAILED}",
-            "payload seek: Last chunk is invalid, stream might be truncated", seek, read]
+            f"payload seek: {BAD_END}", seek, read]
     wants = [[f"payload reader: {NO_MEMORY}"]]
     wants += [looks("payload", good[:number], seek, read)(line) for number, line in enumerate(good)]
     return [(given, *runs([(good, wants)]))]
+
+
+def far_seek():
+    """A seek to the last of eleven chunks and a read there, and the same in no payload."""
+    plain = bytes(i % 251 for i in range(10 * second.PIECE + 1))
+    front = ["payload opens: 0", f"payload seek: {len(plain) - 1}"]
+    good = [*front, "payload read: 1", f"payload byte: {plain[-1]}", "payload opens: 1"]
+    none = ["payload opens: 0", f"payload seek: {BAD_END}", f"payload read: {FAILED}",
+            "payload opens: 0"]
+    wants = [[f"payload reader: {NO_MEMORY}"],
+             ["payload opens: 0", f"payload seek: {NO_MEMORY}", f"payload read: {FAILED}", "payload opens: 0"],
+             [*front, f"payload read: {NO_MEMORY}", "payload opens: 0"]]
+    return [(second.payload(KEY, plain), *runs([(good, wants)])), (b"", *runs([(none, wants[:2])]))]
 
 
 OPS = [("start", 5), ("read", 100), ("current", 500), ("read", 100), ("end", -1337), ("read", 100)]
@@ -262,9 +276,12 @@ def recipients():
                          prepared("enough", [16, 32, 16], "done"), zero]))]
 
 
-ROWS = {"files": files, "cut_payload": cut_payload, "armor_seeks": armor_seeks, "key_texts": key_texts,
+ROWS = {"files": files, "cut_payload": cut_payload, "armor_seeks": armor_seeks, "far_seek": far_seek, "key_texts": key_texts,
         "protected_file": protected_file, "identity_file": identity_file, "recipients": recipients, "long_writes": long_writes,
         "records": records, "write_records": write_records}
+
+# A reader that opened the chunks before its place, whatever it counts, would ask for memory more often.
+MOST = {"far_seek": 9}
 
 # RFC 4231, test case 1, and RFC 5869, test case 1.
 HMAC = "b0344c61d8db38535ca8afceaf0bf12b881dc200c9833da726e9376c2e32cff7"

@@ -1,7 +1,6 @@
 #!/usr/bin/env python3
-"""Runs agebench where memory, reads and writes fail or fall short, and on damaged payloads, files and armor, and so a
-program that opens protected identity files (crates/bench_probe), and one that makes calls of the library in rows where memory
-is refused (crates/rows).
+"""Runs agebench where memory, reads and writes fail or fall short, and on damaged payloads, files and armor; and so crates/rows, which
+makes calls of the library in rows where memory is refused, opens protected identity files, and seeks in files on the disk.
 
 Each run must answer the right bytes, or a beginning of them and the refusal that belongs to the fault. The right
 bytes are those of a second implementation, `second.py`, written from the format's own words. Prints each run that
@@ -21,6 +20,7 @@ from second import BEGIN, END, PIECE, VERSION, armor, stanza
 KEY = bytes(range(32))
 TRUNCATED = "age file is truncated"
 BAD_CHUNK = "decryption error"
+BAD_END = "Last chunk is invalid, stream might be truncated"
 AFTER_LAST = "last chunk has been processed"
 LAST_EMPTY = "last chunk is empty"
 NO_MEMORY = "out of memory"
@@ -455,14 +455,14 @@ def protected(runs):
     """
     identities = IDENTITY.encode() + b"\n# a comment\r\n\n" + second.bech32("age-secret-key-", KEY).upper().encode()
     want = f"{RECIPIENT}\n{second.bech32('age', second.public(KEY))}\n".encode() * 2
-    word, draw, asked = PASSPHRASE.encode(), LONG_DRAW, ["recipients", PASSPHRASE]
+    word, draw, asked = PASSPHRASE.encode(), LONG_DRAW, ["protected_recipients", PASSPHRASE]
     whole = second.encrypted_under(word, draw, identities)
     for given in [whole, armor(whole), armor(whole, b"\r\n")]:
         runs.answers("recipients of a protected file", asked, given, want)
     runs.answers("recipients of no identity", asked, second.encrypted_under(word, draw, b"# nothing\n"), b"")
     runs.answers("recipients of a factor that is taken", asked, second.encrypted_under(word, draw, identities, 20), want)
     for name, words, given, text in [
-            ("with another passphrase", ["recipients", "x"], whole, NO_KEY), ("with no passphrase", asked[:1], whole, NO_KEY),
+            ("with another passphrase", ["protected_recipients", "x"], whole, NO_KEY), ("with no passphrase", asked[:1], whole, NO_KEY),
             ("with too large a factor", asked, second.encrypted_under(word, draw, identities, 23),
              "excessive work factor 23, target 18"),
             ("with a bad line", asked, second.encrypted_under(word, draw, identities + b"\nx"),
@@ -524,23 +524,6 @@ def devices(runs, words, given):
     runs.judge("a closed pipe", got[:3] == (1, b"", f"agebench: {DEVICE}\n"), got)
 
 
-def memory_probe(runs, number):
-    """A seek to the last of eleven chunks and a read there make fewer than ten requests for memory.
-
-    So the answers are the same where the tenth is refused, and `out of memory` where the first is. A reader that opened
-    the chunks before its place, whatever it counts, would make more.
-    """
-    here = os.path.dirname(os.path.abspath(__file__))
-    crate = os.path.join(os.path.dirname(os.path.dirname(here)), "crates", "memory_probe")
-    plain = bytes(i % 251 for i in range(10 * PIECE + 1))
-    want = {1: "memory_probe: out of memory", 10: f"0 opened, at {10 * PIECE}, 1 read: {plain[-1]}, 1 opened"}[number]
-    done = subprocess.run(["rt", "try", "--fail-alloc", str(number)], cwd=crate, input=payload(plain),
-                          capture_output=True, timeout=900)
-    lines = done.stdout.decode().splitlines() + done.stderr.decode().splitlines()
-    runs.judge(f"a seek and a read, request {number} for memory refused", want in lines,
-               (done.returncode, done.stdout, done.stderr.decode(), False))
-
-
 def sealing(runs):
     draw = random.Random(1)
     for size in [0, 1, 16, 65535, 65536, 65537, 131072, 131073, 1000003]:
@@ -590,9 +573,10 @@ def marked(runs):
 def row(runs, name):
     """A row of calls, each request for memory of which is refused in turn: each line that it prints is the row's answer,
     or the want of memory by its name, and then what state that leaves."""
-    requests = sum(runs.later(f"row {name}", [name], given, good, others) for given, good, others in rows.ROWS[name]())
-    runs.judge(f"row {name}: no request for memory", requests > 0, (0, b"", "", False))
-    print(f"row {name}: {requests} requests for memory", flush=True)
+    requests = [runs.later(f"row {name}", [name], given, good, others) for given, good, others in rows.ROWS[name]()]
+    most = rows.MOST.get(name, max(requests))
+    runs.judge(f"row {name}: {requests} requests for memory", 0 < max(requests) <= most, (0, b"", "", False))
+    print(f"row {name}: {sum(requests)} requests for memory", flush=True)
 
 
 def calls(runs):
@@ -604,6 +588,58 @@ def calls(runs):
     runs.judge("calls without memory", got == (0, rows.text(rows.CALLS + rows.controls(False)), "", True), got)
 
 
+def on_disk(runs):
+    """Bytes at places of a plaintext, and sealed records by their numbers, of files on the disk: a payload alone, a whole file, and its armor.
+
+    Each has one chunk, which is opened once.
+    """
+    name = os.path.join(os.path.dirname(runs.mark), "file")
+    plain, ends = bytes(range(100)), [3, 3, 40]
+    records = b"".join(it.to_bytes(8, "big") for it in [3, *ends]) + plain[:40]
+    for word, text, asked, want in [("seeks", plain, [0, 50, 99, 100], (3, 149)), ("gets", records, [2, 0, 1, 0], (4, sum(range(40)) + 3))]:
+        numbers = "".join(f"{it}\n" for it in asked).encode()
+        line = "{} read, {} in all, 1 opened\n".format(*want).encode()
+        whole = second.encrypted(DRAW, text)
+        for form, words, given in [("a payload", [word, name], payload(text)), ("a file", [word, "file", name], whole),
+                                   ("a file in armor", [word, "file", name], armor(whole))]:
+            with open(name, "wb") as file:
+                file.write(given)
+            runs.answers(f"{word} in {form}", words, numbers, line)
+            past = PAST_END if word == "seeks" else "no such record"
+            runs.refuses(f"{word} past the end of {form}", words, b"0\n101\n", b"", past)
+            for other in [b"x\n", b"-1\n", b"18446744073709551616\n", b"\xff\n"]:
+                usage(runs, words, other)
+            with open(name, "wb") as file:
+                file.write(given[:-1] if given[-1:] != b"\n" else armor(whole[:-1]))
+            # (the records' ends are read from the last chunk on)
+            runs.refuses(f"{word} in {form} cut before its last byte", words, b"0\n", b"", BAD_CHUNK if word == "seeks" else BAD_END)
+        os.remove(name)
+        runs.refuses(f"{word} in a file that isn't there", [word, name], b"0\n", b"", DEVICE)
+    for words in [[], ["--help"], ["file"], ["files", "x"], ["records", "x"], ["seeks"], ["seeks", "x", "y"], ["seeks", "file", "x", "y"], ["gets"],
+                  ["gets", "x", "y"], ["protected_recipients", "x", "y"], [b"\xff"], [b"protected_recipients", b"\xff"]]:
+        usage(runs, words, b"0\n")
+
+
+def table(runs):
+    """The table of rows: it is refused where a row has another answer, no answer that is known, or none at all, and where it has no row."""
+    good, other = "key_text::identity 'age1 => invalid Bech32 encoding", "header::read - => input ended early, 0 taken"
+    runs.judge("table", (got := runs.run(["table"], f"# two\n\n{good}\n{other}\n".encode()))[:3] == (0, b"2 rows, 0 differ\n", ""), got)
+    for name, line, told in [("another answer", f"{good}s", f"line 2: {good.replace('=>', '=> got')}, want invalid Bech32 encodings"),
+                             ("no such call", "key_text::identitie - => x", "line 2: key_text::identitie -: no such call"),
+                             ("a word too many", "header::read - - => x", "line 2: header::read - -: a word can't be read"),
+                             ("a word that is none", "header::read 0 => x", "line 2: header::read 0: a word can't be read"),
+                             ("no answer", "header::read -", "line 2: header::read -: no answer is wanted")]:
+        got = runs.run(["table"], f"{other}\n{line}\n".encode())
+        runs.judge(f"table with {name}", got[:3] == (1, f"{told}\n2 rows, 1 differ\n".encode(), ""), got)
+    runs.judge("table of no row", (got := runs.run(["table"], b"# none\n"))[:3] == (1, b"0 rows, 0 differ\n", ""), got)
+
+
+def usage(runs, words, given):
+    """Words, or numbers on standard input, that ask for nothing."""
+    status, out, err, _ = got = runs.run(words, given)
+    runs.judge(f"wrong words or numbers {words} {given!r}", status == 2 and out == b"" and err.startswith("usage: rows "), got)
+
+
 def damaged_payloads(runs):
     plain = random.Random(3).randbytes(200000)
     damaged(runs, OPEN, plain, payload(plain))
@@ -611,19 +647,18 @@ def damaged_payloads(runs):
 
 FAULTY = ["seal", "open", "encrypt", "decrypt", "encrypt in armor", "decrypt armor"]
 # The long ones first: they are run side by side.
-PARTS = [(memory_probe, 1), (memory_probe, 10), (marked,), *[(faulty, name) for name in reversed(FAULTY)], (protected,), (injected_keys,), (injected_passphrases,),
+PARTS = [(marked,), *[(faulty, name) for name in reversed(FAULTY)], (protected,), (injected_keys,), (injected_passphrases,),
          (messages,), (damaged_armor,), (armored_files,), (files,), (parts,), (keys,), (passphrases,), (damaged_payloads,), (sealing,),
-         (command_lines,), *[(row, name) for name in rows.ROWS], (calls,)]
-# The programs of the parts that don't run agebench.
-PROGRAMS = {protected: "bench_probe", row: "rows", calls: "rows"}
+         (command_lines,), *[(row, name) for name in rows.ROWS], (calls,), (on_disk,), (table,)]
+# The parts that run rows, and not agebench.
+OF_ROWS = {protected, row, calls, on_disk, table}
 
 
 def judged(agebench, shim, folder, part, *about):
     """How many runs of a part passed and failed."""
     os.mkdir(folder)
     crates = os.path.dirname(os.path.dirname(os.path.dirname(agebench)))
-    name = PROGRAMS.get(part)
-    program = os.path.join(crates, name, "out", name) if name else agebench
+    program = os.path.join(crates, "rows", "out", "rows") if part in OF_ROWS else agebench
     runs = Runs(program, shim, folder)
     part(runs, *about)
     return runs.passed, runs.failed

@@ -1,22 +1,14 @@
-//! Armor through the library: what is written, what is read back, and each fault of a text. The expected texts are those
-//! of Python's base64 between the two markers.
+//! Armor through the library: what is written is read back. Texts from outside and each fault of a text are in the table of `rows`.
 
 use age_armor::{ArmoredReader, ArmoredWriter, Format};
-use age_devices::answers::{delivers, delivers_until};
+use age_devices::answers::delivers;
 use age_devices::bytes::{part, plaintext};
-use age_error::io::{ArmoredReadError, Error};
+use age_error::io::Error;
 use age_io::{BufReader, Bytes, Read, Write, write_all};
 use std::alloc::Global;
 use std::process::Abort;
 use std::test::Fail;
 use test_support::fixtures::{armored, digest};
-
-// The 48 bytes whose base64 is the alphabet.
-const ALPHABET: [u8; 48] = [
-    0x00, 0x10, 0x83, 0x10, 0x51, 0x87, 0x20, 0x92, 0x8b, 0x30, 0xd3, 0x8f, 0x41, 0x14, 0x93, 0x51,
-    0x55, 0x97, 0x61, 0x96, 0x9b, 0x71, 0xd7, 0x9f, 0x82, 0x18, 0xa3, 0x92, 0x59, 0xa7, 0xa2, 0x9a,
-    0xab, 0xb2, 0xdb, 0xaf, 0xc3, 0x1c, 0xb3, 0xd3, 0x5d, 0xb7, 0xe3, 0x9e, 0xbb, 0xf3, 0xdf, 0xbf,
-];
 
 // Whether a text carries these bytes and ends well.
 fn carries(alloc: Global, text: &[u8], bytes: &[u8]) -> Result<bool, Error> {
@@ -27,37 +19,6 @@ fn carries(alloc: Global, text: &[u8], bytes: &[u8]) -> Result<bool, Error> {
 // Whether this text is their armor.
 fn has_armor(alloc: Global, bytes: &[u8], text: &[u8]) -> Result<bool, Error> {
     Ok(armored(alloc, bytes)?.as_slice() == text)
-}
-
-#[test]
-fn bytes_have_their_armor(rt: HostRuntime) -> Result<(), Fail> {
-    let alloc = rt.alloc();
-    for (bytes, text) in [
-        (
-            b"".as_slice(),
-            b"-----BEGIN AGE ENCRYPTED FILE-----\n-----END AGE ENCRYPTED FILE-----\n".as_slice(),
-        ),
-        (
-            b"a".as_slice(),
-            b"-----BEGIN AGE ENCRYPTED FILE-----\nYQ==\n-----END AGE ENCRYPTED FILE-----\n".as_slice(),
-        ),
-        (
-            [0; 48].as_slice(),
-            b"-----BEGIN AGE ENCRYPTED FILE-----\nAAAAAAAAAAAAAAAAAAAAAAAAAAAAAAAAAAAAAAAAAAAAAAAAAAAAAAAAAAAAAAAA\n-----END AGE ENCRYPTED FILE-----\n".as_slice(),
-        ),
-        (
-            [0; 49].as_slice(),
-            b"-----BEGIN AGE ENCRYPTED FILE-----\nAAAAAAAAAAAAAAAAAAAAAAAAAAAAAAAAAAAAAAAAAAAAAAAAAAAAAAAAAAAAAAAA\nAA==\n-----END AGE ENCRYPTED FILE-----\n".as_slice(),
-        ),
-        (
-            ALPHABET.as_slice(),
-            b"-----BEGIN AGE ENCRYPTED FILE-----\nABCDEFGHIJKLMNOPQRSTUVWXYZabcdefghijklmnopqrstuvwxyz0123456789+/\n-----END AGE ENCRYPTED FILE-----\n".as_slice(),
-        ),
-    ] {
-        assert!(rt; has_armor(alloc, bytes, text)?);
-        assert!(rt; carries(alloc, text, bytes)?);
-    }
-    Ok(())
 }
 
 // Whether the armor of bytes carries them.
@@ -163,29 +124,6 @@ fn bytes_without_armor_stay_as_they_are(rt: HostRuntime) -> Result<(), Fail> {
     Ok(())
 }
 
-// Whether a text, read through a buffer of the library, carries these bytes.
-fn carries_through_a_buffer(alloc: Global, text: &[u8], bytes: &[u8]) -> Result<bool, Error> {
-    let buffered = BufReader::new(alloc, Bytes::new(text))?;
-    let mut reader = ArmoredReader::new_buffered(alloc, buffered)?;
-    Ok(delivers(alloc, &mut reader, bytes))
-}
-
-// With LF, CRLF or both, without the last line ending, and with white space after it.
-#[test]
-fn lines_may_end_with_lf_or_crlf(rt: HostRuntime) -> Result<(), Fail> {
-    let alloc = rt.alloc();
-    for text in [
-        b"-----BEGIN AGE ENCRYPTED FILE-----\r\nYQ==\r\n-----END AGE ENCRYPTED FILE-----\r\n".as_slice(),
-        b"-----BEGIN AGE ENCRYPTED FILE-----\nYQ==\r\n-----END AGE ENCRYPTED FILE-----",
-        b"-----BEGIN AGE ENCRYPTED FILE-----\r\nYQ==\n-----END AGE ENCRYPTED FILE-----\n   ",
-        b"-----BEGIN AGE ENCRYPTED FILE-----\nYQ==\n-----END AGE ENCRYPTED FILE-----\r\n \t\n\x0c\r",
-    ] {
-        assert!(rt; carries(alloc, text, b"a")?);
-        assert!(rt; carries_through_a_buffer(alloc, text, b"a")?);
-    }
-    Ok(())
-}
-
 // Whether a buffer gives the first five of these bytes to a short read, and then the rest.
 fn is_buffered(alloc: Global, bytes: &[u8]) -> Result<bool, Error> {
     let mut reader = BufReader::new(alloc, Bytes::new(bytes))?;
@@ -201,98 +139,5 @@ fn is_buffered(alloc: Global, bytes: &[u8]) -> Result<bool, Error> {
 fn a_buffer_reads_what_its_reader_has(rt: HostRuntime) -> Result<(), Fail> {
     let bytes = plaintext(rt.alloc(), 20_000)?;
     assert!(rt; is_buffered(rt.alloc(), &bytes)?);
-    Ok(())
-}
-
-// Whether a reader refuses reads, of some bytes and of none, as one that failed earlier.
-fn has_failed<R: Read>(reader: &mut R) -> bool {
-    let mut room = [0; 4];
-    reader.read(&mut room) == Err(Error::Failed) && reader.read(&mut []) == Err(Error::Failed)
-}
-
-// Whether a text gives these bytes, then the fault, and `Failed` from then on.
-fn fails_after(alloc: Global, text: &[u8], given: &[u8], fault: Error) -> Result<bool, Error> {
-    let mut reader = ArmoredReader::new(alloc, Bytes::new(text))?;
-    Ok(delivers_until(alloc, &mut reader, given, fault) && has_failed(&mut reader))
-}
-
-#[test]
-fn fewer_than_36_bytes_end_early(rt: HostRuntime) -> Result<(), Fail> {
-    let alloc = rt.alloc();
-    for text in [
-        b"".as_slice(),
-        b"YQ==",
-        b"age-encryption.org/v1\n-> bench\nAAAA",
-        b"-----BEGIN AGE ENCRYPTED FILE-----",
-        b"-----BEGIN AGE ENCRYPTED FILE-----\n",
-        b"-----BEGIN AGE ENCRYPTED FILE-----x",
-        &[0xff; 35],
-    ] {
-        assert!(rt; fails_after(alloc, text, b"", Error::UnexpectedEof)?);
-    }
-    Ok(())
-}
-
-#[test]
-fn each_fault_has_its_name(rt: HostRuntime) -> Result<(), Fail> {
-    let alloc = rt.alloc();
-    for (text, fault) in [
-        (
-            b"-----BEGIN AGE ENCRYPTED FILE----- \n-----END AGE ENCRYPTED FILE-----\n".as_slice(),
-            ArmoredReadError::InvalidBeginMarker,
-        ),
-        (
-            b"-----BEGIN AGE ENCRYPTED FILE-----\nY\xffQ=\n-----END AGE ENCRYPTED FILE-----\n",
-            ArmoredReadError::InvalidUtf8,
-        ),
-        (
-            b"-----BEGIN AGE ENCRYPTED FILE-----\nY\rQ=\n-----END AGE ENCRYPTED FILE-----\n",
-            ArmoredReadError::LineContainsCr,
-        ),
-        (
-            b"-----BEGIN AGE ENCRYPTED FILE-----\nYQ=\n-----END AGE ENCRYPTED FILE-----\n",
-            ArmoredReadError::MissingPadding,
-        ),
-        (
-            b"-----BEGIN AGE ENCRYPTED FILE-----\n\n-----END AGE ENCRYPTED FILE-----\n",
-            ArmoredReadError::NotWrappedAt64Chars,
-        ),
-        (
-            b"-----BEGIN AGE ENCRYPTED FILE-----\nYR==\n-----END AGE ENCRYPTED FILE-----\n",
-            ArmoredReadError::Base64,
-        ),
-    ] {
-        assert!(rt; fails_after(alloc, text, b"", Error::Armor(fault))?);
-    }
-    Ok(())
-}
-
-#[test]
-fn what_stands_before_a_fault_is_given(rt: HostRuntime) -> Result<(), Fail> {
-    let alloc = rt.alloc();
-    for (text, given, fault) in [
-        (
-            b"-----BEGIN AGE ENCRYPTED FILE-----\nYQ==\n-----END AGE ENCRYPTED FILE-----\nx".as_slice(),
-            b"a".as_slice(),
-            ArmoredReadError::TrailingGarbage,
-        ),
-        (
-            b"-----BEGIN AGE ENCRYPTED FILE-----\nYQ==\n",
-            b"a",
-            ArmoredReadError::NotWrappedAt64Chars,
-        ),
-        (
-            b"-----BEGIN AGE ENCRYPTED FILE-----\nYQ==\nYQ==\n-----END AGE ENCRYPTED FILE-----\n",
-            b"a",
-            ArmoredReadError::NotWrappedAt64Chars,
-        ),
-        (
-            b"-----BEGIN AGE ENCRYPTED FILE-----\nAAAAAAAAAAAAAAAAAAAAAAAAAAAAAAAAAAAAAAAAAAAAAAAAAAAAAAAAAAAAAA==\nAAAAAAAAAAAAAAAAAAAAAAAAAAAAAAAAAAAAAAAAAAAAAAAAAAAAAAAAAAAAAAAA\n-----END AGE ENCRYPTED FILE-----\n",
-            &[0; 46],
-            ArmoredReadError::ShortLineInMiddle,
-        ),
-    ] {
-        assert!(rt; fails_after(alloc, text, given, Error::Armor(fault))?);
-    }
     Ok(())
 }

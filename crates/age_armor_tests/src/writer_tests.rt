@@ -1,8 +1,7 @@
-//! Texts of armor from outside.
+//! Bytes that are written in pieces.
 
 ghost use Rattle.std.specs.Prelude.{◌<◌};
 
-use crate::reader_tests::{BEGIN, END, VALUES, joined};
 use age_armor::{ArmoredWriter, Format};
 use age_error::io::Error;
 use age_io::Write;
@@ -28,42 +27,6 @@ fn numbered(alloc: Global, length: usize) -> Result<Vec<u8>, Error> {
         bytes.push((place % 251) as u8)?;
     }
     Ok(bytes)
-}
-
-// Whether the text of bytes that are written at once has these lines between its markers.
-fn has_lines(alloc: Global, bytes: &[u8], lines: &[u8]) -> Result<bool, Error> {
-    let expected = joined(alloc, &[BEGIN, lines, END])?;
-    Ok(written(alloc, Format::AsciiArmor, bytes, 1 << 20)?.as_slice() == expected.as_slice())
-}
-
-// Bytes and their lines.
-const KNOWN: [(&[u8], &[u8]); 5] = [
-    (b"", b""),
-    (b"a", b"YQ==\n"),
-    (
-        &[0; 48],
-        b"AAAAAAAAAAAAAAAAAAAAAAAAAAAAAAAAAAAAAAAAAAAAAAAAAAAAAAAAAAAAAAAA\n",
-    ),
-    (
-        &[0; 49],
-        b"AAAAAAAAAAAAAAAAAAAAAAAAAAAAAAAAAAAAAAAAAAAAAAAAAAAAAAAAAAAAAAAA\nAA==\n",
-    ),
-    (
-        VALUES,
-        b"ABCDEFGHIJKLMNOPQRSTUVWXYZabcdefghijklmnopqrstuvwxyz0123456789+/\n",
-    ),
-];
-
-#[test]
-fn armor_of_known_bytes(rt: HostRuntime) -> Result<(), Fail> {
-    for (bytes, lines) in KNOWN {
-        assert!(rt;
-            has_lines(rt.alloc(), bytes, lines)?,
-            "of {} bytes",
-            bytes.len()
-        );
-    }
-    Ok(())
 }
 
 #[test]

@@ -1,7 +1,6 @@
 //! What is made of identity files. The recipient of `K` under the bench suite was computed by a program of our own after BIP 173.
 
-use crate::fixtures::{File, count};
-use crate::line_tests::text_of;
+use crate::fixtures::{File, count, text_of};
 use age::io::Write;
 use age::x25519::Recipient;
 use age_bench::suite::BenchSuite;

@@ -16,6 +16,20 @@ use test_support::fixtures::{armored, plaintext};
 /// An identity that the crate `age` has in its own tests.
 pub const K: &str = "AGE-SECRET-KEY-1GQ9778VQXMMJVE8SK7J6VT8UJ4HDQAJUVSFCWCM02D8GEWQ72PVQ2Y5J33";
 
+/// Parts of a text, where `@` stands for `K` and `^` for the end of a line.
+pub fn text_of(alloc: Global, form: &[u8], end: &[u8]) -> Result<Vec<u8>, Fail> {
+    let mut text = Vec::new(alloc);
+    for byte in form {
+        let part = match *byte {
+            b'@' => K.as_bytes(),
+            b'^' => end,
+            _ => std::slice::from_ref(byte),
+        };
+        text.extend_from_slice(part)?;
+    }
+    Ok(text)
+}
+
 /// A file of identities.
 pub type File = IdentityFile<BenchSuite, NoCallbacks>;
 

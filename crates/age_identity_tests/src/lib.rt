@@ -21,6 +21,4 @@ mod limit_tests;
 #[cfg(test)]
 mod limited_text_tests;
 #[cfg(test)]
-mod line_tests;
-#[cfg(test)]
 mod size_tests;

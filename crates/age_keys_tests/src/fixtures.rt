@@ -8,7 +8,6 @@ use age::suite::Suite;
 use age::{DecryptError, Identity, Recipient, decrypt, encrypt, encrypt_and_armor, scrypt, x25519};
 use age_bench::suite::BenchSuite;
 use std::alloc::{AllocError, Global};
-use std::collections::BTreeSet;
 use std::fmt::{Debug, Display};
 use std::test::Fail;
 use test_support::answers::{gives, is_refusal};
@@ -83,11 +82,6 @@ pub fn gives_zeros<I: Identity>(alloc: Global, identity: &mut I, stanza: &Stanza
     is_zeros(&identity.unwrap_stanza(alloc, stanza))
 }
 
-/// Whether an identity passes over a stanza.
-pub fn passes_over<I: Identity>(alloc: Global, identity: &mut I, stanza: &Stanza) -> bool {
-    identity.unwrap_stanza(alloc, stanza).is_none()
-}
-
 // Whether an answer is a refusal with this text.
 fn is_refused<T: Drop, E: Display + Drop>(
     alloc: Global,
@@ -145,48 +139,6 @@ pub fn refuses_file<S: Suite, I: Identity>(
     is_refusal(alloc, decrypt::<S, I>(alloc, identity, file), refusal)
 }
 
-// Whether they are this one stanza.
-fn is_only(stanzas: &[Stanza], expected: &Stanza) -> bool {
-    match stanzas {
-        [stanza] => stanza == expected,
-        _ => false,
-    }
-}
-
-// Whether they are this label, or none.
-fn are_labels(labels: &BTreeSet<String>, expected: Option<&str>) -> bool {
-    match expected {
-        None => labels.is_empty(),
-        Some(text) => labels.len() == 1 && labels.iter().all(|label| label.as_str() == text),
-    }
-}
-
-// Whether an answer is this stanza, with this label or none.
-fn is_wrapped<E: Drop>(
-    answer: Result<(Vec<Stanza>, BTreeSet<String>), E>,
-    expected: &Stanza,
-    label: Option<&str>,
-) -> bool {
-    match answer {
-        Ok((stanzas, labels)) => is_only(stanzas.as_slice(), expected)
-            && are_labels(&labels, label),
-        Err(_) => false,
-    }
-}
-
-/// Whether a recipient wraps a file key of zeros in this stanza, with this label or none, and leaves so many random bytes.
-pub fn wraps<R: Recipient>(
-    alloc: Global,
-    recipient: &R,
-    mut draw: Draw,
-    expected: &Stanza,
-    label: Option<&str>,
-    left: usize,
-) -> bool {
-    let answer = recipient.wrap_file_key(alloc, &FileKey::new([0; 16]), &mut draw);
-    is_wrapped(answer, expected, label) && draw.left() == left
-}
-
 /// Whether a recipient refuses to wrap it with this text, and leaves so many random bytes.
 pub fn refuses_to_wrap<R: Recipient>(
     alloc: Global,
@@ -197,11 +149,6 @@ pub fn refuses_to_wrap<R: Recipient>(
 ) -> bool {
     let answer = recipient.wrap_file_key(alloc, &FileKey::new([0; 16]), &mut draw);
     is_refusal(alloc, answer, refusal) && draw.left() == left
-}
-
-/// Whether a value has this text.
-pub fn prints<T: Display>(alloc: Global, value: &T, text: &str) -> Result<bool, Fail> {
-    Ok(value.to_string(alloc)?.as_str() == text)
 }
 
 /// Whether a value has this text for whoever looks for faults.

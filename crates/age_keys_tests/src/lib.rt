@@ -10,8 +10,6 @@ mod header_tests;
 #[cfg(test)]
 mod passphrase_tests;
 #[cfg(test)]
-mod plugin_tests;
-#[cfg(test)]
 mod scrypt_tests;
 #[cfg(test)]
 mod text_tests;

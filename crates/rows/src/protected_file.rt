@@ -1,14 +1,13 @@
 //! A protected file of identities in armor: its header, an identity that takes less work, and one whose callbacks know no passphrase.
 
-ghost use Rattle.std.specs.Prelude.{⊤};
-
+use crate::callbacks::Knows;
 use crate::lines::{done, is_done, ready, say};
 use crate::readers::seek;
 use age::armor::ArmoredReader;
 use age::format::{HeaderV1, Stanza};
 use age::io::{BufReader, Bytes, Error, Read, SeekFrom};
 use age::secrecy::{FileKey, SecretString};
-use age::{Callbacks, DecryptError, Identity, encrypted, scrypt};
+use age::{DecryptError, Identity, encrypted, scrypt};
 use age_bench::suite::BenchSuite;
 use std::alloc::{AllocError, Global};
 use std::cell::Cell;
@@ -16,37 +15,6 @@ use std::cell::Cell;
 const OF: &str = "protected";
 
 type Armored<'a> = ArmoredReader<BufReader<Bytes<'a>>>;
-
-/// Knows no passphrase, and counts how often it is asked for one.
-#[derive(Drop)]
-struct KnowsNone<'a> {
-    asked: &'a Cell<u64>,
-}
-
-impl<'a> Callbacks for KnowsNone<'a> {
-    ghost displays = { λ _ _ _. ⊤ };
-
-    ghost confirms = { λ _ _ _ _ _ _. ⊤ };
-
-    ghost gives_string = { λ _ _ _ _. ⊤ };
-
-    ghost gives_passphrase = { λ _ _ _ _. ⊤ };
-
-    fn display_message(&mut self, _message: &str) {}
-
-    fn confirm(&mut self, _message: &str, _yes: &str, _no: Option<&str>) -> Option<bool> {
-        None
-    }
-
-    fn request_public_string(&mut self, _description: &str) -> Option<String> {
-        None
-    }
-
-    fn request_passphrase(&mut self, _description: &str) -> Option<SecretString> {
-        self.asked.set(self.asked.get().saturating_add(1));
-        None
-    }
-}
 
 fn show(rt: &HostRuntime, stanza: &Stanza) {
     say(rt, "stanza", "tag", &stanza.tag());
@@ -110,7 +78,7 @@ fn print_header(rt: &HostRuntime, text: &[u8]) {
     }
 }
 
-type Protected<'a> = encrypted::Identity<BenchSuite, Armored<'a>, KnowsNone<'a>>;
+type Protected<'a> = encrypted::Identity<BenchSuite, Armored<'a>, Knows<'a>>;
 
 // The identity that the file protects.
 fn protected<'a>(rt: &HostRuntime, text: &'a [u8], asked: &'a Cell<u64>) -> Option<Protected<'a>> {
@@ -120,7 +88,10 @@ fn protected<'a>(rt: &HostRuntime, text: &'a [u8], asked: &'a Cell<u64>) -> Opti
         rt.alloc(),
         reader,
         None,
-        KnowsNone { asked },
+        Knows {
+            passphrase: None,
+            asked,
+        },
         18,
         None,
     );

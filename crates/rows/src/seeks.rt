@@ -122,7 +122,7 @@ pub fn told(rt: &HostRuntime, walk: &Walk) -> Outcome {
 }
 
 /// Does what the words ask for.
-pub fn probe(rt: &HostRuntime, words: &[String]) -> Outcome {
+pub fn print(rt: &HostRuntime, words: &[String]) -> Outcome {
     let walked = match words {
         [name] => walk_in(rt, false, name),
         [form, name] if form.as_str() == "file" => walk_in(rt, true, name),
@@ -132,7 +132,7 @@ pub fn probe(rt: &HostRuntime, words: &[String]) -> Outcome {
         Ok(Some(walk)) => told(rt, &walk),
         Ok(None) => Outcome::Usage,
         Err(error) => {
-            let _ = eprintln!(rt; "bench_probe: {error}");
+            let _ = eprintln!(rt; "rows: {error}");
             Outcome::Refused
         }
     }

@@ -51,7 +51,7 @@ fn walk<R: Seek + Drop>(
 
 // That it was refused for this reason.
 fn refused<E: Display>(rt: &HostRuntime, error: &E) -> Outcome {
-    let _ = eprintln!(rt; "bench_probe: {error}");
+    let _ = eprintln!(rt; "rows: {error}");
     Outcome::Refused
 }
 
@@ -107,7 +107,7 @@ fn get_in(rt: &HostRuntime, whole: bool, name: &str) -> Outcome {
 }
 
 /// Does what the words ask for.
-pub fn probe(rt: &HostRuntime, words: &[String]) -> Outcome {
+pub fn print(rt: &HostRuntime, words: &[String]) -> Outcome {
     match words {
         [name] => get_in(rt, false, name),
         [form, name] if form.as_str() == "file" => get_in(rt, true, name),

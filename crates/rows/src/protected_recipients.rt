@@ -1,7 +1,8 @@
 //! Prints the recipients of the identities in a protected identity file, bare or in armor, that standard input gives, under the passphrase
-//! that is the one word, and does so twice: what the first use and a later one answer, also where memory and reads fail.
+//! that the one word is, and does so twice: what the first use and a later one answer, also where memory and reads fail.
 
 use crate::Outcome;
+use crate::callbacks::Knows;
 use age::EncryptError;
 use age::armor::ArmoredReader;
 use age::encrypted::Identity;
@@ -10,8 +11,8 @@ use age::secrecy::SecretString;
 use age::streaming::FileError;
 use age::x25519::Recipient;
 use age_bench::suite::BenchSuite;
-use sazh_core::callbacks::GivesOnce;
 use std::alloc::Global;
+use std::cell::Cell;
 use std::fmt::Write as _;
 use std::io;
 
@@ -36,7 +37,7 @@ fn show(
             Ok(true)
         }
         Err(error) => {
-            let _ = eprintln!(rt; "bench_probe: {error}");
+            let _ = eprintln!(rt; "rows: {error}");
             Ok(false)
         }
     }
@@ -53,13 +54,17 @@ fn passphrase(alloc: Global, word: Option<&str>) -> Result<Option<SecretString>,
 // Whether both uses succeeded.
 fn print_twice(rt: &HostRuntime, word: Option<&str>) -> Result<bool, FileError> {
     let alloc = rt.alloc();
-    let callbacks = GivesOnce::new(passphrase(alloc, word)?);
+    let asked = Cell::new(0);
+    let callbacks = Knows {
+        passphrase: passphrase(alloc, word)?,
+        asked: &asked,
+    };
     let text = ArmoredReader::new(alloc, Std::new(rt.reader()))?;
-    let made: Option<Identity<BenchSuite, _, GivesOnce>> = Identity::from_buffer(
+    let made: Option<Identity<BenchSuite, _, Knows>> = Identity::from_buffer(
         alloc, text, None, callbacks, 18, None,
     )?;
     let Some(identity) = made else {
-        let _ = eprintln!(rt; "bench_probe: not a file of a passphrase");
+        let _ = eprintln!(rt; "rows: not a file of a passphrase");
         return Ok(false);
     };
     let mut identity = identity;
@@ -69,7 +74,7 @@ fn print_twice(rt: &HostRuntime, word: Option<&str>) -> Result<bool, FileError> 
 }
 
 /// Does what the words ask for.
-pub fn probe(rt: &HostRuntime, words: &[String]) -> Outcome {
+pub fn print(rt: &HostRuntime, words: &[String]) -> Outcome {
     let printed = match words {
         [] => print_twice(rt, None),
         [word] => print_twice(rt, Some(word)),
@@ -79,7 +84,7 @@ pub fn probe(rt: &HostRuntime, words: &[String]) -> Outcome {
         Ok(true) => Outcome::Done,
         Ok(false) => Outcome::Refused,
         Err(error) => {
-            let _ = eprintln!(rt; "bench_probe: {error}");
+            let _ = eprintln!(rt; "rows: {error}");
             Outcome::Refused
         }
     }
