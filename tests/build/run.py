@@ -130,7 +130,8 @@ def root_above(folder):
 def whole(tries):
     """A build from nothing proves each crate once and says what it is at, and the next has nothing to do."""
     tries.fresh()
-    status, lines = tries.builds()
+    # (each crate for a second or two, so that what it is at is told of each, also on a slow machine)
+    status, lines = tries.builds(FAKE_SECONDS="0.1")
     tries.ends(f"a whole build: {status}, {lines}", status == 0 and lines[0].startswith("sazh: proving 4 crates on "))
     tries.ends("each crate once", sorted(tries.begun()) == ["low", "sazh", "side", "slow"] and tries.begun()[-1] == "sazh")
     proved = [PROVED.fullmatch(it) for it in lines]
@@ -245,7 +246,7 @@ def refusals(tries):
     status, lines = tries.builds(FAKE_REFUSES="slow", FAKE_SECONDS="0.01")
     tries.ends(f"not proved: {status}, {lines}", status == 3 and lines[-2:] == ["slow: an open goal", "sazh: slow could not be proved"])
     tries.is_clean("not proved")
-    status, lines = tries.builds(PATH="/usr/bin:/bin")
+    status, lines = tries.builds(PATH=str(tries.folder / "nothing"))
     tries.ends(f"no kit: {status}, {lines}", status == 2 and len(lines) == 1 and "none on the path" in lines[0])
 
 
