@@ -634,6 +634,27 @@ def table(runs):
     runs.judge("table of no row", (got := runs.run(["table"], b"# none\n"))[:3] == (1, b"0 rows, 0 differ\n", ""), got)
 
 
+def vectors(runs):
+    """The rows of vectors: each is told whose answer is bent, and one that can't be read, and no row at all is refused."""
+    with open(os.path.join(os.path.dirname(runs.program), "..", "stdin"), encoding="utf-8") as file:
+        lines = file.read().split("\n")
+    bent = [it and not it.startswith("#") and it[:-1] + "10"[it[-1] == "1"] for it in lines]
+    numbers = [number for number, it in enumerate(bent, 1) if it]
+    status, out, err, _ = got = runs.run([], "\n".join(it or "" for it in bent).encode())
+    *told, last = out.decode().splitlines()
+    right = [it.startswith(f"line {number}: ") and "=> got" in it for number, it in zip(numbers, told)]
+    runs.judge("vectors whose answers are bent", status == 1 and not err and all(right) and len(told) == len(numbers)
+               and last == f"{len(numbers)} rows, {len(numbers)} differ", got)
+    good = next(it for it in lines if it.startswith("chacha20::chacha20_block "))
+    for name, line, why in [("no such call", good.replace("_block", "_blocks", 1), "no such call"),
+                            ("a word too many", good.replace(" => ", " - => "), "another number of words is wanted"),
+                            ("a word that is none", good.replace("block 0", "block x", 1), "a word can't be read"),
+                            ("no answer", good.partition(" => ")[0], "no answer is wanted")]:
+        got = runs.run([], f"{good}\n{line}\n".encode())
+        runs.judge(f"vectors with {name}", got[:3] == (1, f"line 2: {line}: {why}\n2 rows, 1 differ\n".encode(), ""), got)
+    runs.judge("vectors of no row", (got := runs.run([], b"# none\n"))[:3] == (1, b"0 rows, 0 differ\n", ""), got)
+
+
 def usage(runs, words, given):
     """Words, or numbers on standard input, that ask for nothing."""
     status, out, err, _ = got = runs.run(words, given)
@@ -649,16 +670,17 @@ FAULTY = ["seal", "open", "encrypt", "decrypt", "encrypt in armor", "decrypt arm
 # The long ones first: they are run side by side.
 PARTS = [(marked,), *[(faulty, name) for name in reversed(FAULTY)], (protected,), (injected_keys,), (injected_passphrases,),
          (messages,), (damaged_armor,), (armored_files,), (files,), (parts,), (keys,), (passphrases,), (damaged_payloads,), (sealing,),
-         (command_lines,), *[(row, name) for name in rows.ROWS], (calls,), (on_disk,), (table,)]
-# The parts that run rows, and not agebench.
-OF_ROWS = {protected, row, calls, on_disk, table}
+         (command_lines,), *[(row, name) for name in rows.ROWS], (calls,), (on_disk,), (table,), (vectors,)]
+# The parts that run rows or vectors, and not agebench.
+OTHERS = {**dict.fromkeys([protected, row, calls, on_disk, table], "rows"), vectors: "vectors"}
 
 
 def judged(agebench, shim, folder, part, *about):
     """How many runs of a part passed and failed."""
     os.mkdir(folder)
     crates = os.path.dirname(os.path.dirname(os.path.dirname(agebench)))
-    program = os.path.join(crates, "rows", "out", "rows") if part in OF_ROWS else agebench
+    name = OTHERS.get(part)
+    program = os.path.join(crates, name, "out", name) if name else agebench
     runs = Runs(program, shim, folder)
     part(runs, *about)
     return runs.passed, runs.failed
