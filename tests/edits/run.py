@@ -73,6 +73,9 @@ elif sys.argv[1] == "must-fail":
 '''
 
 
+SAYS = {"same": (0, "1 passed, 0 failed"), "stale": (0, "1 passed, 0 failed, 1 stale"), "fails": (1, "0 passed, 1 failed")}
+
+
 class Runs:
     def __init__(self, room):
         self.room, self.passed, self.failed = Path(room), 0, 0
@@ -92,10 +95,13 @@ class Runs:
         ran = subprocess.run([f"{self.room}/edits/run.sh", *words], capture_output=True, text=True, env={**self.environment, **environment})
         return ran.returncode, ran.stdout.strip().split("\n")
 
-    def judge(self, what, good, said):
+    def wants(self, what, words, status, last, also=lambda said: True, **environment):
+        """Whether the command ends so, with this last line, and what else is asked of its lines."""
+        got, said = self.says(*words, **environment)
+        good = (got, said[-1]) == (status, last) and also(said)
         self.passed, self.failed = self.passed + bool(good), self.failed + (not good)
         if not good:
-            print(f"failed: {what}: {said}")
+            print(f"failed: {what}: {got}, {said}")
 
     def lines(self):
         file = self.room / "edits/TRIED"
@@ -120,30 +126,20 @@ def repository(runs):
 
 def tries(runs):
     """What is noted of edits that are refused together, alone, for a name, or not."""
-    status, said = runs.says("--check")
-    runs.judge("no line yet", status == 0 and said[-1] == "1 passed, 0 failed, 1 stale" and "no line" in said[0], said)
-    for other, why in ((" (only because a proof file names what the edit took away): x", "a name"), (" (only by a limit of the prover): x", "a limit")):
-        status, said = runs.says("high", OTHER=other)
-        runs.judge(f"refused only for {why}", status == 1 and said[-1] == "4 passed, 1 failed" and not runs.lines(), said)
-    status, said = runs.says("high")
-    runs.judge("all refused", status == 0 and said[-1] == "5 passed, 0 failed" and runs.lines().get("high", [])[4:5] == ["5"], said)
-    runs.judge("three of them together, two alone", "high: 3 of 5 refused together" in said and sum("must-fail high/" in it for it in said) == 2, said)
-    status, said = runs.says("--check")
-    runs.judge("the line fits", status == 0 and said == ["1 passed, 0 failed"], said)
+    runs.wants("no line yet", ["--check"], 0, "1 passed, 0 failed, 1 stale", lambda said: "no line" in said[0])
+    for why, other in (("a name", "a proof file names what the edit took away"), ("a limit", "by a limit of the prover")):
+        runs.wants(f"refused only for {why}", ["high"], 1, "4 passed, 1 failed", lambda said: not runs.lines(), OTHER=f" (only because {other}): x")
+    runs.wants("all refused, three of them together and two alone", ["high"], 0, "5 passed, 0 failed", lambda said: runs.lines()["high"][4] == "5"
+               and "high: 3 of 5 refused together" in said and sum("must-fail high/" in it for it in said) == 2)
+    runs.wants("the line fits", ["--check"], *SAYS["same"])
     runs.write("edits/high/means_the_same.edit", "file: src/lib.rt\nold: self.at == 0\nnew: 0 == self.at\n")
-    status, said = runs.says("--check")
-    runs.judge("an edit more", status == 1 and said[-1] == "0 passed, 1 failed" and "edits/run.sh high" in said[0], said)
+    runs.wants("an edit more", ["--check"], *SAYS["fails"], lambda said: "edits/run.sh high" in said[0])
     runs.change("bin/rt", "refused, as it must be{ALONE", "{'NOT REFUSED' if name[:5] == 'means' else 'refused, as it must be'}{ALONE")
-    status, said = runs.says("--stale")
-    runs.judge("one isn't refused", status == 1 and said[-1] == "5 passed, 1 failed" and runs.lines()["high"][4] == "5", said)
+    runs.wants("one isn't refused", ["--stale"], 1, "5 passed, 1 failed", lambda said: runs.lines()["high"][4] == "5")
     (runs.room / "edits/high/means_the_same.edit").unlink()
-    runs.change("crates/low/src/lib.rt", "x + one", "x + 0")
-    runs.change("bin/rt", '{"raised(0)"', '{"x + 0": "", "pub struct Count": "note: src/lib.rt:1:1: it is not proved", "raised(0)"')
-    status, said = runs.says("high")
-    runs.judge("a crate that isn't proved", status == 1 and said[-1] == "0 passed, 5 failed" and "isn't proved" in "".join(said), said)
-    runs.change("crates/low/src/lib.rt", "x + 0", "x + one")
-    status, said = runs.says("nothing")
-    runs.judge("no such crate", status == 1, said)
+    runs.change("bin/rt", '{"raised(0)"', '{"pub struct Count": "note: src/lib.rt:1:1: it is not proved", "raised(0)"')
+    runs.wants("a crate that isn't proved", ["high"], 1, "0 passed, 5 failed", lambda said: "isn't proved" in "".join(said))
+    runs.wants("no such crate", ["nothing"], 1, "")
 
 
 CHANGES = [
@@ -162,22 +158,17 @@ CHANGES = [
     ("high/specs/Lib.antt", "ℕ", "ℤ", "fails"),
     ("high/proofs/Lib.antt", "mod Other", "mod Another", "fails"),
 ]
-SAYS = {"same": (0, "1 passed, 0 failed"), "stale": (0, "1 passed, 0 failed, 1 stale"), "fails": (1, "0 passed, 1 failed")}
 
 
 def changes(runs):
     for path, old, new, wanted in CHANGES:
         runs.change(f"crates/{path}", old, new)
-        status, said = runs.says("--check")
-        runs.judge(f"{path}: {old} to {new} is told as {wanted}", (status, said[-1]) == SAYS[wanted], said)
+        runs.wants(f"{path}: {old} to {new} is told as {wanted}", ["--check"], *SAYS[wanted])
         runs.change(f"crates/{path}", new, old)
-    status, said = runs.says("--check", LOGIC="other")
-    runs.judge("another logic is told as stale", (status, said[-1]) == SAYS["stale"], said)
-    status, said = runs.says("--check")
-    runs.judge("as it was", (status, said[-1]) == SAYS["same"], said)
+    runs.wants("another logic is told as stale", ["--check"], *SAYS["stale"], LOGIC="other")
+    runs.wants("as it was", ["--check"], *SAYS["same"])
     shutil.rmtree(runs.room / "edits/high")
-    status, said = runs.says("--check")
-    runs.judge("a line without edits", status == 1 and "take its line out" in said[0], said)
+    runs.wants("a line without edits", ["--check"], 1, "0 passed, 1 failed", lambda said: "take its line out" in said[0])
 
 
 def main():
